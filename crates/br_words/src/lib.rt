@@ -2,8 +2,15 @@
 //! the addresses of device words.
 #![tactic(auto)]
 
+mod device;
+mod laws;
 mod operation;
 mod size;
 
-pub use operation::BinOp;
+pub use device::device_word;
+pub use laws::{
+    operations_answer_words, shifts_are_rv32im, signed_words_are_twos_complement,
+    zero_divisors_are_rv32im,
+};
+pub use operation::{BinOp, op};
 pub use size::Size;
