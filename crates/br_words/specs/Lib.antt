@@ -1,3 +1,4 @@
+pub mod Bits
 pub mod Device
 pub mod Size
 pub mod Words

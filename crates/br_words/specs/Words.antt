@@ -1,6 +1,7 @@
 -- Words, the numbers below 2 ^ 32, and the operations on them, by numbers alone. Those on a divisor
 -- of 0 and on shifts are RV32IM's (RISC-V unprivileged manual, chapter 2.4 and the M extension).
 use Rattle.std.specs.Prelude.{ℕ, ◌+◌, ◌-◌, ◌*◌, ◌/◌, ◌%◌, ◌^◌, ◌<◌, Bool, nat_lt, ◌==◌, if◌then◌else◌, ℤ, pos, negsuc, int_lt, bit_and, bit_or, bit_xor}
+use Rattle.br_words.specs.Bits.{signed_bits, low_bits}
 use Rattle.br_words.specs.declared.operation.BinOp.{BinOp}
 use Rattle.br_words.specs.declared.operation.BinOp.TheVariants.{Add, Sub, Mul, Mulhuu, Divu, Remu, And, Or, Xor, Sru, Slu, Srs, Lts, Ltu, Eq}
 
@@ -10,12 +11,11 @@ IsWord a = a < 2 ^ 32
 
 -- the signed number that a word stands for: from 2 ^ 31 up it is the word minus 2 ^ 32
 abbrev pub signed : ℕ → ℤ
-signed a = if nat_lt a (2 ^ 31) then pos a else negsuc (2 ^ 32 - 1 - a)
+signed a = signed_bits 32 a
 
--- the word that a signed number leaves modulo 2 ^ 32; `negsuc n` is -(n + 1)
+-- the word that a signed number leaves modulo 2 ^ 32
 abbrev pub wrapped : ℤ → ℕ
-wrapped (pos n) = n % 2 ^ 32
-wrapped (negsuc n) = 2 ^ 32 - 1 - n % 2 ^ 32
+wrapped z = low_bits 32 z
 
 -- a signed number divided by a positive one, rounded down
 abbrev pub floor_div : ℤ → ℕ → ℤ

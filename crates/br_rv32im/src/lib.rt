@@ -1,0 +1,8 @@
+//! The instructions of RV32IM that a compiled program uses: the word that each is, the instruction
+//! that each word is, and its text in a listing. From the RISC-V unprivileged manual, RV32I base
+//! integer instruction set and M extension.
+#![tactic(auto)]
+
+mod instruction;
+
+pub use instruction::{BranchOp, ImmOp, Ins, LoadOp, RegOp, ShiftOp, StoreOp, UpperOp};
