@@ -1,0 +1,17 @@
+-- The limits of an image.
+use Rattle.std.specs.Prelude.{ℕ, List, ◌≡◌, ◌≢◌, ◌*◌, ◌%◌, ◌<◌, ◌≤◌, All, AllPairs, length}
+use Rattle.br_image.specs.declared.images.Entry.{Entry}
+
+-- the limits of an entry beside so many words of code
+pub record EntryInLimits (words : ℕ) (e : Entry) : Type 0 where
+  pub args : e.args ≤ 8
+  pub results : e.results ≤ 8
+  pub aligned : e.offset % 4 ≡ 0
+  pub offset : e.offset < 4 * words
+  pub need : e.need ≤ 1048576
+
+-- the limits of an image's parts
+pub record InLimits (entries : List Entry) (code : List ℕ) : Type 0 where
+  pub words : length code ≤ 262144
+  pub each : All (EntryInLimits (length code)) entries
+  pub names : AllPairs (λ a b. a.name ≢ b.name) entries

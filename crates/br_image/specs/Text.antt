@@ -1,0 +1,27 @@
+-- The lines of an image's text.
+use Rattle.std.specs.Prelude.{ℕ, ◌+◌, ◌/◌, ◌%◌, nat_lt, if◌then◌else◌, List, [], ◌∷◌, ◌++◌, codes}
+use Rattle.std.specs.Fmt.{decimal}
+use Rattle.br_image.specs.declared.images.Entry.{Entry}
+
+-- a lower-case hexadecimal digit
+abbrev pub hex_digit : ℕ → ℕ
+hex_digit d = if nat_lt d 10 then 48 + d else 87 + d
+
+-- the eight digits of a word
+abbrev pub word_text : ℕ → List ℕ
+word_text w =
+    hex_digit (w / 268435456 % 16) ∷ hex_digit (w / 16777216 % 16) ∷ hex_digit (w / 1048576 % 16) ∷ hex_digit (w / 65536 % 16)
+    ∷ hex_digit (w / 4096 % 16) ∷ hex_digit (w / 256 % 16) ∷ hex_digit (w / 16 % 16) ∷ hex_digit (w % 16) ∷ []
+
+-- what stands in an entry's line, the fields parted by one space
+abbrev pub entry_text : Entry → List ℕ
+entry_text e =
+    codes "entry " ++ e.name ++ 32 ∷ decimal e.args ++ 32 ∷ decimal e.results ++ 32 ∷ decimal e.offset ++ 32 ∷ decimal e.need
+
+-- what stands in the line that tells how many words follow
+abbrev pub code_text : ℕ → List ℕ
+code_text n = codes "code " ++ decimal n
+
+-- a line is what stands in it and one line feed
+abbrev pub line : List ℕ → List ℕ
+line text = text ++ 10 ∷ []
