@@ -1,0 +1,167 @@
+// Reading: from a text to its trees.
+
+ghost use Rattle.std.specs.Prelude.{◌≤◌, length};
+
+use crate::number::number;
+use crate::piece::{Kind, first_piece};
+use crate::tree::{TextFault, Tree};
+use br_base::{Name, OrMemory};
+use sqlite_items::Items;
+use std::alloc::Global;
+
+/// How many lists may stand in one another.
+const MOST_OPEN: usize = 256;
+
+/// A list whose `)` has not come, and the trees that stand before it in the list around it.
+#[derive(Debug, Drop)]
+struct OpenList {
+    at: u32,
+    before: Items<Tree>,
+}
+
+/// What was read so far: the lists that are open, the outermost first, and the trees of the last.
+#[derive(Debug, Drop)]
+struct Reader {
+    alloc: Global,
+    open: Items<OpenList>,
+    items: Items<Tree>,
+}
+
+/// The trees of a text. A fault is the one of the lowest offset; `Unclosed` comes only where there
+/// is no other.
+pub fn read(alloc: Global, bytes: &[u8]) -> Result<Items<Tree>, OrMemory<TextFault>>
+    requires { length bytes.now ≤ 1048576 }
+{
+    let mut reader = Reader::new(alloc);
+    let mut at = 0;
+    while at < bytes.len() {
+        let rest = &bytes[at..];
+        let (kind, len) = first_piece(rest);
+        reader.take(at as u32, kind, &rest[..len])?;
+        at += len;
+    }
+    reader.finish()
+}
+
+impl Reader {
+    fn new(alloc: Global) -> Reader {
+        Reader {
+            alloc,
+            open: Items::new(alloc),
+            items: Items::new(alloc),
+        }
+    }
+
+    /// Takes the piece of these bytes that stands at this offset.
+    fn take(&mut self, at: u32, kind: Kind, bytes: &[u8]) -> Result<(), OrMemory<TextFault>> {
+        match kind {
+            Kind::Gap => Ok(()),
+            Kind::Open => self.open(at),
+            Kind::Close => self.close(at),
+            Kind::Run => self.push(at, bytes),
+            Kind::Stray => Err(OrMemory::Fault(TextFault::BadByte(at))),
+        }
+    }
+
+    fn open(&mut self, at: u32) -> Result<(), OrMemory<TextFault>> {
+        if self.open.len() >= MOST_OPEN {
+            return Err(OrMemory::Fault(TextFault::TooDeep(at)));
+        }
+        let before = std::mem::replace(&mut self.items, Items::new(self.alloc));
+        self.open.push(OpenList { at, before })?;
+        Ok(())
+    }
+
+    fn close(&mut self, at: u32) -> Result<(), OrMemory<TextFault>> {
+        match self.open.pop() {
+            None => Err(OrMemory::Fault(TextFault::ExtraClose(at))),
+            Some(list) => {
+                let items = std::mem::replace(&mut self.items, list.before);
+                self.items.push(Tree::List { at: list.at, items })?;
+                Ok(())
+            }
+        }
+    }
+
+    fn push(&mut self, at: u32, run: &[u8]) -> Result<(), OrMemory<TextFault>> {
+        let name = Name::from_bytes(Vec::from_slice(self.alloc, run)?);
+        let tree = match name {
+            Some(text) => Tree::Name { at, text },
+            None => match number(run) {
+                Some(value) => Tree::Number { at, value },
+                None => return Err(OrMemory::Fault(TextFault::BadNumber(at))),
+            },
+        };
+        self.items.push(tree)?;
+        Ok(())
+    }
+
+    fn finish(self) -> Result<Items<Tree>, OrMemory<TextFault>> {
+        let Reader {
+            alloc: _,
+            open,
+            items,
+        } = self;
+        match open.get(0) {
+            None => Ok(items),
+            Some(first) => Err(OrMemory::Fault(TextFault::Unclosed(first.at))),
+        }
+    }
+}
+
+#[cfg(test)]
+mod tests {
+    use super::*;
+    use std::test::Fail;
+
+    fn fault(alloc: Global, text: &[u8]) -> Option<TextFault>
+        requires { length text.now ≤ 1048576 }
+    {
+        match read(alloc, text) {
+            Err(OrMemory::Fault(fault)) => Some(fault),
+            _ => None,
+        }
+    }
+
+    #[test]
+    fn faults(rt: HostRuntime) -> Result<(), Fail> {
+        let alloc = rt.alloc();
+        let table: [(&str, Option<TextFault>); 26] = [
+            ("", None),
+            ("(fn main () ()", Some(TextFault::Unclosed(0))),
+            ("(fn main () (r) (set r 4294967295))", None),
+            (
+                "(fn main () (r) (set r 4294967296))",
+                Some(TextFault::BadNumber(23)),
+            ),
+            ("()", None),
+            (")", Some(TextFault::ExtraClose(0))),
+            ("(a))(", Some(TextFault::ExtraClose(3))),
+            ("(a (b) (c", Some(TextFault::Unclosed(0))),
+            ("(a) (b", Some(TextFault::Unclosed(4))),
+            ("( & 00 )) ", Some(TextFault::BadByte(2))),
+            ("( 00 & )) ", Some(TextFault::BadNumber(2))),
+            ("0", None),
+            ("00", Some(TextFault::BadNumber(0))),
+            ("01", Some(TextFault::BadNumber(0))),
+            ("1a", Some(TextFault::BadNumber(0))),
+            ("1_", Some(TextFault::BadNumber(0))),
+            ("0x", Some(TextFault::BadNumber(0))),
+            ("0xFFFFffff", None),
+            ("0x123456789", Some(TextFault::BadNumber(0))),
+            ("0x012345678", Some(TextFault::BadNumber(0))),
+            ("0xg", Some(TextFault::BadNumber(0))),
+            ("0X1", Some(TextFault::BadNumber(0))),
+            ("a;)&\r 00", None),
+            ("a;)\n &", Some(TextFault::BadByte(5))),
+            ("-1", Some(TextFault::BadByte(0))),
+            ("_a\t9\r\nA(9 b_9)", None),
+        ];
+        for (text, answer) in table {
+            assert!(rt; text.len() < 100);
+            let found = fault(alloc, text.as_bytes());
+            assert_eq!(rt; found, answer, "{text:?}");
+        }
+        Ok(())
+    }
+}
