@@ -1,2 +1,4 @@
+pub mod Ends
+pub mod Memory
 pub mod Name
 pub mod Status
