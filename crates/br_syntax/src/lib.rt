@@ -3,4 +3,4 @@
 
 mod program;
 
-pub use program::{Cmd, Expr, Func};
+pub use program::{Cmd, Expr, Func, Program};

@@ -1,5 +1,7 @@
 // Programs of the source language.
 
+ghost use Rattle.br_syntax.specs.Shape.{IsShaped};
+
 use br_base::Name;
 use br_words::{BinOp, Size};
 use sqlite_items::{Boxed, Items};
@@ -62,4 +64,13 @@ pub struct Func {
     pub args: Items<Name>,
     pub results: Items<Name>,
     pub body: Items<Cmd>,
+}
+
+/// Functions in the order of the text. Each list of names has at most eight and none twice, each
+/// call and interaction has at most eight arguments, and each buffer's size is a multiple of 4 of
+/// at most 65,536. So a program has nothing that a source text could not say.
+#[derive(Debug, Drop)]
+pub struct Program {
+    pub funcs: Items<Func>,
+    pub ghost shaped: { IsShaped funcs },
 }
