@@ -1,13 +1,6 @@
-// A library with one function.
+//! The machine that runs an image: its memory, one step of it, and many.
 #![tactic(auto)]
 
-ghost use Rattle.std.specs.Prelude.{◌≡◌};
-ghost use Rattle.br_machine.specs.Echo.{echo_of};
+mod stepped;
 
-// The `ensures` clause is the contract: what `echo` returns is `echo_of` of its argument, a definition
-// in `specs/Echo.antt`, which a caller's clause can cite too.
-pub fn echo(x: usize) -> usize
-    ensures { result ≡ echo_of x }
-{
-    x
-}
+pub use stepped::{Stepped, Trap};

@@ -1,0 +1,62 @@
+-- What it means that an image implements a program (Integration Verification across Software and
+-- Hardware for a Simple Embedded System, PLDI 2021: the compiler's theorem and the machine's).
+use Rattle.std.specs.Prelude.{◌≡◌, ◌⊎◌, ℕ, ◌+◌, ◌*◌, ◌^◌, ◌<◌, ◌≤◌, List, [], ◌∷◌, length, map, Some, slice_get}
+use Rattle.std.specs.List.{AllByRecursion}
+use Rattle.br_bytes.specs.declared.run.Choice.{Choice}
+use Rattle.br_bytes.specs.declared.run.Outcome.TheVariants.{Undefined}
+use Rattle.br_bytes.specs.Memory.{Memory}
+use Rattle.br_syntax.specs.declared.program.Func.{Func}
+use Rattle.br_measure.specs.Bulk.{bulk}
+use Rattle.br_measure.specs.Measure.{measure}
+use Rattle.br_source_meaning.specs.Calls.{Called, call}
+use Rattle.br_image.specs.declared.images.Entry.{Entry}
+use Rattle.br_image.specs.declared.images.Image.{Image}
+use Rattle.br_machine.specs.Start.{Leftover, IsLeftover, IsInData, start}
+use Rattle.br_emit.specs.Reaches.{Reaches}
+
+-- words are numbers below 2 ^ 32
+abbrev pub AreWords : List ℕ → Type 0
+AreWords = AllByRecursion (λ v. v < 2 ^ 32)
+
+-- each choice is at an address that is a word, and holds bytes
+abbrev pub AreChoices : List Choice → Type 0
+AreChoices = AllByRecursion (λ c. (c.addr < 2 ^ 32) × AllByRecursion (λ b. b < 256) c.bytes)
+
+-- instructions for each unit of bulk
+abbrev pub rate : ℕ
+rate = 24
+
+-- The image follows the program in a call: there are choices of buffers with which the source's call
+-- is undefined, or else the machine shows that call's end, its trace and its memory, in at most
+-- (fuel + 1) * 24 * bulk steps.
+abbrev pub Follows : List ℕ → List Func → Func → Entry → List ℕ → Memory → List ℕ → Leftover → ℕ → Type 0
+Follows code fs f entry args m answers j fuel =
+    (choices : List Choice) × AreChoices choices ×
+    (let called = call fs f args m answers choices fuel in
+    (called.outcome ≡ Undefined)
+    ⊎ Reaches (start code entry.offset args m j) answers called.outcome called.trace called.memory fuel entry.need ((fuel + 1) * rate * bulk fs))
+
+-- what an entry says of its function
+abbrev pub Describes : List Func → Func → Entry → Type 0
+Describes fs f entry =
+    (entry.name ≡ f.name) × (entry.args ≡ length f.args) × (entry.results ≡ length f.results) × (entry.need ≤ measure fs f)
+
+-- one entry for each function, in the order of the text
+abbrev pub AllDescribed : List Func → List Func → List Entry → Type 0
+AllDescribed fs [] [] = Unit {0}
+AllDescribed fs (f ∷ rest) (entry ∷ entries) = Describes fs f entry × AllDescribed fs rest entries
+AllDescribed fs [] (entry ∷ entries) = ⊥
+AllDescribed fs (f ∷ rest) [] = ⊥
+
+-- The image implements the program: an entry for each function, at most 24 words of code for each unit
+-- of bulk, and for every function, arguments, memory in the data region, answers of devices, leftover
+-- contents and fuel it follows the program.
+pub record Implements (i : Image) (fs : List Func) : Type 0 where
+  pub described : AllDescribed fs fs i.entries
+  pub short : length i.code ≤ rate * bulk fs
+  pub follows : (n : ℕ) (f : Func) (entry : Entry) → slice_get fs n ≡ Some f → slice_get i.entries n ≡ Some entry
+      → (args : List ℕ) → length args ≡ length f.args → AreWords args
+      → (m : Memory) → IsInData m
+      → (answers : List ℕ) → AreWords answers
+      → (j : Leftover) → IsLeftover j
+      → (fuel : ℕ) → Follows i.code fs f entry args m answers j fuel

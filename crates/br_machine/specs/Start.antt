@@ -1,0 +1,52 @@
+-- The machine when a call begins.
+use Rattle.std.specs.Prelude.{◌≡◌, ℕ, ◌+◌, ◌-◌, ◌*◌, ◌^◌, ◌<◌, ◌≤◌, List, [], ◌∷◌, ◌++◌, length, slice_set, replicate, IfSome, unwrap_or}
+use Rattle.std.specs.List.{AllByRecursion, flat_map}
+use Rattle.std.specs.FinMap as map
+use Rattle.br_bytes.specs.Number.{low_bytes}
+use Rattle.br_bytes.specs.Memory.{Memory}
+use Rattle.br_machine.specs.Layout.{code_base, data_base, stack_base}
+use Rattle.br_machine.specs.State.{MachineState}
+
+-- what the machine holds by chance before a call: its registers, and the bytes of the data and stack
+-- regions
+pub record Leftover : Type 0 where
+  pub registers : List ℕ
+  pub bytes : List ℕ
+
+pub record IsLeftover (j : Leftover) : Type 0 where
+  pub registers : length j.registers ≡ 32
+  pub words : AllByRecursion (λ v. v < 2 ^ 32) j.registers
+  pub bytes : length j.bytes ≡ 2097152
+  pub small : AllByRecursion (λ b. b < 256) j.bytes
+
+-- each address of a memory is in the data region, and each byte is one
+abbrev pub IsInData : Memory → Type 0
+IsInData m = (a : ℕ) → IfSome (map.get m a) (λ b. (data_base ≤ a) × (a < stack_base) × (b < 256))
+
+-- registers with words in a register and those behind it, in turn
+abbrev pub with_words : ℕ → List ℕ → List ℕ → List ℕ
+with_words r [] registers = registers
+with_words r (v ∷ vs) registers = with_words (r + 1) vs (slice_set registers r v)
+
+-- bytes from `a` on, with those of the memory where it has the address
+abbrev pub overlaid : Memory → ℕ → List ℕ → List ℕ
+overlaid m a [] = []
+overlaid m a (b ∷ bs) = unwrap_or (map.get m a) b ∷ overlaid m (a + 1) bs
+
+-- the bytes of code, each word's lowest first
+abbrev pub code_bytes : List ℕ → List ℕ
+code_bytes code = flat_map (low_bytes 4) code
+
+-- the code, zeros up to the data region, and the leftover bytes with the memory over them
+unfoldable pub start_ram : List ℕ → Memory → Leftover → List ℕ
+start_ram code m j =
+    code_bytes code ++ replicate (data_base - code_base - 4 * length code) 0 ++ overlaid m data_base j.bytes
+
+-- the machine as a call begins at an offset into the code: the arguments stand in x10, x11 and so on
+abbrev pub start : List ℕ → ℕ → List ℕ → Memory → Leftover → MachineState
+start code offset args m j = record {
+  registers = with_words 10 args (slice_set j.registers 0 0);
+  pc = code_base + offset;
+  ram = start_ram code m j;
+  code_words = length code;
+}

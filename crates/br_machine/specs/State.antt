@@ -1,0 +1,45 @@
+-- The machine at a moment.
+use Rattle.std.specs.Prelude.{◌≡◌, ℕ, zero, suc, ◌+◌, ◌-◌, ◌*◌, ◌^◌, ◌<◌, ◌≤◌, List, [], ◌∷◌, length, slice_index, slice_set, ◌==◌, if◌then◌else◌}
+use Rattle.std.specs.List.{AllByRecursion}
+use Rattle.br_machine.specs.Layout.{code_base}
+
+pub record MachineState : Type 0 where
+  -- the 32 registers, x0 first
+  pub registers : List ℕ
+  -- the address of the next instruction
+  pub pc : ℕ
+  -- the bytes of RAM, the lowest address first
+  pub ram : List ℕ
+  -- how many words of code stand at RAM's low end
+  pub code_words : ℕ
+
+-- what holds of every machine: sizes, and that registers and pc are words and RAM is of bytes
+pub record IsMachine (s : MachineState) : Type 0 where
+  pub registers : length s.registers ≡ 32
+  pub words : AllByRecursion (λ v. v < 2 ^ 32) s.registers
+  pub pc : s.pc < 2 ^ 32
+  pub ram : length s.ram ≡ 3145728
+  pub bytes : AllByRecursion (λ b. b < 256) s.ram
+  pub code : s.code_words ≤ 262144
+
+-- what a register reads as: x0 reads 0 (RISC-V unprivileged manual, chapter 2.1)
+abbrev pub register : MachineState → ℕ → ℕ
+register s r = if r == 0 then 0 else slice_index s.registers r
+
+-- the machine with a register set: x0 keeps no write
+abbrev pub with_register : ℕ → ℕ → MachineState → MachineState
+with_register r v s = if r == 0 then s else record s { registers = slice_set s.registers r v }
+
+-- n bytes of RAM from a place on, counted from RAM's low end
+abbrev pub bytes_from : List ℕ → ℕ → ℕ → List ℕ
+bytes_from ram place zero = []
+bytes_from ram place (suc n) = slice_index ram place ∷ bytes_from ram (place + 1) n
+
+-- RAM with these bytes from a place on
+abbrev pub with_bytes_from : List ℕ → ℕ → List ℕ → List ℕ
+with_bytes_from ram place [] = ram
+with_bytes_from ram place (b ∷ bs) = with_bytes_from (slice_set ram place b) (place + 1) bs
+
+-- the byte at an address of RAM
+abbrev pub byte_of : MachineState → ℕ → ℕ
+byte_of s a = slice_index s.ram (a - code_base)
