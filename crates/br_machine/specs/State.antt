@@ -1,5 +1,5 @@
 -- The machine at a moment.
-use Rattle.std.specs.Prelude.{◌≡◌, ℕ, zero, suc, ◌+◌, ◌-◌, ◌*◌, ◌^◌, ◌<◌, ◌≤◌, List, [], ◌∷◌, length, slice_index, slice_set, ◌==◌, if◌then◌else◌}
+use Rattle.std.specs.Prelude.{◌≡◌, ℕ, zero, suc, ◌+◌, ◌-◌, ◌*◌, ◌^◌, ◌<◌, ◌≤◌, List, [], ◌∷◌, length, slice_index, slice_set}
 use Rattle.std.specs.List.{AllByRecursion}
 use Rattle.br_machine.specs.Layout.{code_base}
 
@@ -24,11 +24,13 @@ pub record IsMachine (s : MachineState) : Type 0 where
 
 -- what a register reads as: x0 reads 0 (RISC-V unprivileged manual, chapter 2.1)
 abbrev pub register : MachineState → ℕ → ℕ
-register s r = if r == 0 then 0 else slice_index s.registers r
+register s zero = 0
+register s (suc r) = slice_index s.registers (suc r)
 
 -- the machine with a register set: x0 keeps no write
 abbrev pub with_register : ℕ → ℕ → MachineState → MachineState
-with_register r v s = if r == 0 then s else record s { registers = slice_set s.registers r v }
+with_register zero v s = s
+with_register (suc r) v s = record s { registers = slice_set s.registers (suc r) v }
 
 -- n bytes of RAM from a place on, counted from RAM's low end
 abbrev pub bytes_from : List ℕ → ℕ → ℕ → List ℕ

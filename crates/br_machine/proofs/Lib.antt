@@ -1,0 +1,3 @@
+pub mod Ram
+pub mod Fetch
+pub mod Straight

@@ -1,0 +1,59 @@
+-- Bytes of RAM: what a write leaves elsewhere, and what a read finds.
+use Rattle.std.proofs.Common.{◌≡◌, ◌≢◌, ◌⊎◌, inl, inr, ℕ, zero, suc, ◌+◌, ◌*◌, ◌/◌, ◌%◌, ◌^◌, ◌<◌, ◌≤◌, List, [], ◌∷◌, length, take, get_or, refl, sym, ap, subst, ◌∙◌, arith, add-one}
+use Rattle.std.proofs.Math.ListN.{length-set}
+use Rattle.std.proofs.lemmas.List.{get_or-set_other, get_or-set_same, take-set-le}
+use Rattle.std.specs.Prelude.{slice_index, slice_set}
+use Rattle.br_bytes.specs.Number.{number_of, low_bytes}
+use Rattle.br_machine.specs.State.{bytes_from, with_bytes_from}
+
+pub length-with_bytes_from : (bs ram : List ℕ) (p : ℕ) → length (with_bytes_from ram p bs) ≡ length ram
+length-with_bytes_from [] ram p = refl
+length-with_bytes_from (b ∷ bs) ram p = length-with_bytes_from bs (slice_set ram p b) (p + 1) ∙ length-set ram p b
+
+-- a place before the bytes, or behind them
+pub index-with_bytes_from : (bs ram : List ℕ) (p q : ℕ) → (q < p) ⊎ (p + length bs ≤ q) → slice_index (with_bytes_from ram p bs) q ≡ slice_index ram q
+index-with_bytes_from [] ram p q apart = refl
+index-with_bytes_from (b ∷ bs) ram p q apart =
+    index-with_bytes_from bs (slice_set ram p b) (p + 1) q (further apart) ∙ get_or-set_other ram p q b 0 (other apart)
+  where
+    further : (q < p) ⊎ (p + suc (length bs) ≤ q) → (q < p + 1) ⊎ (p + 1 + length bs ≤ q)
+    further (inl h) = inl (omega arith)
+    further (inr h) = inr (omega arith)
+
+    other : (q < p) ⊎ (p + suc (length bs) ≤ q) → q ≢ p
+    other (inl h) = omega arith
+    other (inr h) = omega arith
+
+-- what was written is read
+pub bytes_from-with_bytes_from : (bs ram : List ℕ) (p : ℕ) → p + length bs ≤ length ram → bytes_from (with_bytes_from ram p bs) p (length bs) ≡ bs
+bytes_from-with_bytes_from [] ram p h = refl
+bytes_from-with_bytes_from (b ∷ bs) ram p h =
+    let here : slice_index (with_bytes_from (slice_set ram p b) (p + 1) bs) p ≡ b =
+    index-with_bytes_from bs (slice_set ram p b) (p + 1) p (inl (omega arith)) ∙ get_or-set_same ram p b 0 (omega arith) in
+    let rest = bytes_from-with_bytes_from bs (slice_set ram p b) (p + 1) (omega (arith, length-set ram p b)) in
+    rw (here, rest) refl
+
+-- RAMs that agree on n places from p on have the same bytes there
+pub bytes_from-same : (n : ℕ) (ram ram' : List ℕ) (p : ℕ) → ((q : ℕ) → p ≤ q → q < p + n → slice_index ram' q ≡ slice_index ram q) → bytes_from ram' p n ≡ bytes_from ram p n
+bytes_from-same zero ram ram' p same = refl
+bytes_from-same (suc n) ram ram' p same =
+    let here = same p (omega arith) (omega arith) in
+    let rest = bytes_from-same n ram ram' (p + 1) (λ q l h. same q (omega arith) (omega arith)) in
+    rw (here, rest) refl
+
+-- a front of RAM before the bytes stays
+pub take-with_bytes_from : (bs ram : List ℕ) (n p : ℕ) → n ≤ p → take n (with_bytes_from ram p bs) ≡ take n ram
+take-with_bytes_from [] ram n p h = refl
+take-with_bytes_from (b ∷ bs) ram n p h = take-with_bytes_from bs (slice_set ram p b) n (p + 1) (omega arith) ∙ take-set-le n ram p b h
+
+pub length-low_bytes : (n v : ℕ) → length (low_bytes n v) ≡ n
+length-low_bytes zero v = refl
+length-low_bytes (suc n) v = ap suc (length-low_bytes n (v / 256))
+
+-- a word is the number of its four bytes
+pub number_of-low_bytes_4 : (v : ℕ) → v < 2 ^ 32 → number_of (low_bytes 4 v) ≡ v
+number_of-low_bytes_4 v h = omega arith
+
+-- a word that was written is read
+pub word_at-with_bytes_from : (ram : List ℕ) (p v : ℕ) → v < 2 ^ 32 → p + 4 ≤ length ram → number_of (bytes_from (with_bytes_from ram p (low_bytes 4 v)) p 4) ≡ v
+word_at-with_bytes_from ram p v h room = ap number_of (bytes_from-with_bytes_from (low_bytes 4 v) ram p room) ∙ number_of-low_bytes_4 v h
