@@ -135,28 +135,44 @@ funct7_of_reg Divu = 0b0000001
 funct7_of_reg Rem = 0b0000001
 funct7_of_reg Remu = 0b0000001
 
--- ---- the operation that has a code
+-- ---- the operations of a format, and the one that has a code
+
+abbrev pub branches : List BranchOp
+branches = Beq ∷ Bne ∷ Blt ∷ Bge ∷ Bltu ∷ Bgeu ∷ []
 
 abbrev pub branch_coded : ℕ → Option BranchOp
-branch_coded funct3 =
-    find (λ o. funct3_of_branch o == funct3) (Beq ∷ Bne ∷ Blt ∷ Bge ∷ Bltu ∷ Bgeu ∷ [])
+branch_coded funct3 = find (λ o. funct3_of_branch o == funct3) branches
+
+abbrev pub loads : List LoadOp
+loads = Lb ∷ Lh ∷ Lw ∷ Lbu ∷ Lhu ∷ []
 
 abbrev pub load_coded : ℕ → Option LoadOp
-load_coded funct3 = find (λ o. funct3_of_load o == funct3) (Lb ∷ Lh ∷ Lw ∷ Lbu ∷ Lhu ∷ [])
+load_coded funct3 = find (λ o. funct3_of_load o == funct3) loads
+
+abbrev pub stores : List StoreOp
+stores = Sb ∷ Sh ∷ Sw ∷ []
 
 abbrev pub store_coded : ℕ → Option StoreOp
-store_coded funct3 = find (λ o. funct3_of_store o == funct3) (Sb ∷ Sh ∷ Sw ∷ [])
+store_coded funct3 = find (λ o. funct3_of_store o == funct3) stores
+
+abbrev pub imms : List ImmOp
+imms = Addi ∷ Slti ∷ Sltiu ∷ Xori ∷ Ori ∷ Andi ∷ []
 
 abbrev pub imm_coded : ℕ → Option ImmOp
-imm_coded funct3 =
-    find (λ o. funct3_of_imm o == funct3) (Addi ∷ Slti ∷ Sltiu ∷ Xori ∷ Ori ∷ Andi ∷ [])
+imm_coded funct3 = find (λ o. funct3_of_imm o == funct3) imms
+
+abbrev pub shifts : List ShiftOp
+shifts = Slli ∷ Srli ∷ Srai ∷ []
 
 abbrev pub shift_coded : ℕ → ℕ → Option ShiftOp
 shift_coded funct3 funct7 =
-    find (λ o. (funct3_of_shift o == funct3) && (funct7_of_shift o == funct7)) (Slli ∷ Srli ∷ Srai ∷ [])
+    find (λ o. (funct3_of_shift o == funct3) && (funct7_of_shift o == funct7)) shifts
+
+abbrev pub regs : List RegOp
+regs =
+    Add ∷ Sub ∷ Sll ∷ Slt ∷ Sltu ∷ Xor ∷ Srl ∷ Sra ∷ Or ∷ And
+    ∷ Mul ∷ Mulh ∷ Mulhsu ∷ Mulhu ∷ Div ∷ Divu ∷ Rem ∷ Remu ∷ []
 
 abbrev pub reg_coded : ℕ → ℕ → Option RegOp
 reg_coded funct3 funct7 =
-    find (λ o. (funct3_of_reg o == funct3) && (funct7_of_reg o == funct7))
-    (Add ∷ Sub ∷ Sll ∷ Slt ∷ Sltu ∷ Xor ∷ Srl ∷ Sra ∷ Or ∷ And
-    ∷ Mul ∷ Mulh ∷ Mulhsu ∷ Mulhu ∷ Div ∷ Divu ∷ Rem ∷ Remu ∷ [])
+    find (λ o. (funct3_of_reg o == funct3) && (funct7_of_reg o == funct7)) regs

@@ -4,5 +4,7 @@
 #![tactic(auto)]
 
 mod instruction;
+mod laws;
 
 pub use instruction::{BranchOp, ImmOp, Ins, LoadOp, RegOp, ShiftOp, StoreOp, UpperOp};
+pub use laws::instructions_and_words_match;

@@ -1,7 +1,8 @@
 // Laws of the operations on words. Each function does nothing: what it ensures is the law.
 
-ghost use Rattle.std.specs.Prelude.{◌≡◌, ℕ, ◌+◌, ◌-◌, ◌^◌, ◌<◌, ℤ, FitsSigned};
+ghost use Rattle.std.specs.Prelude.{◌≡◌, ℕ, ◌+◌, ◌-◌, ◌^◌, ◌<◌, ◌≤◌, ℤ, FitsSigned};
 ghost use Rattle.std.specs.Int.{w32};
+ghost use Rattle.br_words.specs.Bits.{low_bits, sign_extended, signed_bits};
 ghost use Rattle.br_words.specs.Words.{IsWord, signed, value_of_op, wrapped};
 
 use crate::operation::BinOp;
@@ -31,4 +32,12 @@ pub fn signed_words_are_twos_complement()
     ensures fits { (a : ℕ) → IsWord a → FitsSigned w32 (signed a) }
     ensures back { (a : ℕ) → IsWord a → wrapped (signed a) ≡ a }
     ensures there { (z : ℤ) → FitsSigned w32 z → signed (wrapped z) ≡ z }
+{}
+
+/// Sign extension keeps the signed number that `n` bits stand for, and `n` bits are the low bits of
+/// that number: two's complement at any width up to that of a word.
+pub fn sign_extension_keeps_numbers()
+    ensures same { (n x : ℕ) → 1 ≤ n → n ≤ 32 → x < 2 ^ n → signed (sign_extended n x) ≡ signed_bits n x }
+    ensures word { (n x : ℕ) → 1 ≤ n → n ≤ 32 → x < 2 ^ n → IsWord (sign_extended n x) }
+    ensures low { (n x : ℕ) → 1 ≤ n → x < 2 ^ n → low_bits n (signed_bits n x) ≡ x }
 {}

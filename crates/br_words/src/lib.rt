@@ -3,14 +3,16 @@
 #![tactic(auto)]
 
 mod device;
+mod fields;
 mod laws;
 mod operation;
 mod size;
 
 pub use device::device_word;
+pub use fields::{bits, sext};
 pub use laws::{
-    operations_answer_words, shifts_are_rv32im, signed_words_are_twos_complement,
-    zero_divisors_are_rv32im,
+    operations_answer_words, shifts_are_rv32im, sign_extension_keeps_numbers,
+    signed_words_are_twos_complement, zero_divisors_are_rv32im,
 };
 pub use operation::{BinOp, op};
 pub use size::Size;
