@@ -1,3 +1,4 @@
 pub mod Limits
-pub mod Text
+pub mod Lines
 pub mod Printed
+pub mod Text

@@ -1,9 +1,11 @@
 -- The limits of an image.
-use Rattle.std.specs.Prelude.{ℕ, List, ◌≡◌, ◌≢◌, ◌*◌, ◌%◌, ◌<◌, ◌≤◌, All, AllPairs, length}
+use Rattle.std.specs.Prelude.{ℕ, List, ◌≡◌, ◌≢◌, ◌*◌, ◌%◌, ◌^◌, ◌<◌, ◌≤◌, All, AllPairs, length}
+use Rattle.br_base.specs.Name.{IsName}
 use Rattle.br_image.specs.declared.images.Entry.{Entry}
 
 -- the limits of an entry beside so many words of code
 pub record EntryInLimits (words : ℕ) (e : Entry) : Type 0 where
+  pub name : IsName e.name
   pub args : e.args ≤ 8
   pub results : e.results ≤ 8
   pub aligned : e.offset % 4 ≡ 0
@@ -12,6 +14,7 @@ pub record EntryInLimits (words : ℕ) (e : Entry) : Type 0 where
 
 -- the limits of an image's parts
 pub record InLimits (entries : List Entry) (code : List ℕ) : Type 0 where
-  pub words : length code ≤ 262144
+  pub count : length code ≤ 262144
+  pub words : All (λ w. w < 2 ^ 32) code
   pub each : All (EntryInLimits (length code)) entries
   pub names : AllPairs (λ a b. a.name ≢ b.name) entries

@@ -2,7 +2,10 @@
 #![tactic(auto)]
 
 mod images;
+mod laws;
+mod lines;
 mod printing;
 
 pub use images::{Entry, Image};
+pub use laws::two_images_have_two_texts;
 pub use printing::print;

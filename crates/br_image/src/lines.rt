@@ -1,0 +1,18 @@
+// The lines that an image's text is made of.
+
+use crate::images::Entry;
+
+/// A line of an image's text.
+#[derive(Debug, Drop)]
+pub enum Line {
+    /// `brimage 1`.
+    Header,
+    /// `entry NAME ARGS RESULTS OFFSET NEED`.
+    Function(Entry),
+    /// `code N`.
+    Count(u32),
+    /// Eight hexadecimal digits.
+    Word(u32),
+    /// `end`.
+    End,
+}
