@@ -1,0 +1,54 @@
+-- What a run leaves of what it had, and states that have more.
+use Rattle.std.specs.Prelude.{◌≡◌, ℕ, ◌≤◌, List, [], ◌++◌, ⊤}
+use Rattle.br_bytes.specs.declared.run.Choice.{Choice}
+use Rattle.br_bytes.specs.declared.run.Outcome.{Outcome}
+use Rattle.br_bytes.specs.declared.run.Outcome.TheVariants as outcome
+use Rattle.br_source_meaning.specs.Values.{Name}
+use Rattle.br_source_meaning.specs.Runs.{State, End, Waiting, OutOfFuel, Undefined, NoChoice, Run, Goes, Ends, Returned, Returns, Stops, Callee}
+
+-- a list begins with another
+abbrev pub BeginsWith : {X : Type 0} → List X → List X → Type 0
+BeginsWith {X} xs front = (rest : List X) × (xs ≡ front ++ rest)
+
+-- a list ends with another
+abbrev pub EndsWith : {X : Type 0} → List X → List X → Type 0
+EndsWith {X} xs back = (taken : List X) × (xs ≡ taken ++ back)
+
+-- From `s` a run can have come to `t`: the earlier events stay, answers and choices are taken from
+-- the front, and fuel does not grow.
+abbrev pub CanLeave : State → State → Type 0
+CanLeave s t = BeginsWith t.trace s.trace × EndsWith s.answers t.answers × EndsWith s.choices t.choices × (t.fuel ≤ s.fuel)
+
+-- the state that a run has come to
+abbrev pub last : Run → State
+last (Goes s) = s
+last (Ends end s) = s
+
+-- the state that a call has come to
+abbrev pub last_of_call : Returned → State
+last_of_call (Returns vs s) = s
+last_of_call (Stops end s) = s
+
+-- from every state, what functions leave can be left
+abbrev pub OnlyTakes : Callee → Type 0
+OnlyTakes call = (f : Name) (vs : List ℕ) (s : State) → CanLeave s (last_of_call (call f vs s))
+
+-- a state with more answers and choices after its own
+abbrev pub with_more : List ℕ → List Choice → State → State
+with_more vs cs s = record s { answers = s.answers ++ vs; choices = s.choices ++ cs }
+
+-- An end stays where more answers and choices are given: a run that waits takes the first of the
+-- answers, and one with no choice that it can take may take the first of the choices.
+abbrev pub Stays : End → List ℕ → List Choice → Type 0
+Stays (Waiting a) vs cs = vs ≡ []
+Stays NoChoice vs cs = cs ≡ []
+Stays OutOfFuel vs cs = ⊤
+Stays Undefined vs cs = ⊤
+
+-- the same of the outcome of a call
+abbrev pub OutcomeStays : Outcome → List ℕ → List Choice → Type 0
+OutcomeStays (outcome.Waiting a) vs cs = vs ≡ []
+OutcomeStays outcome.NoChoice vs cs = cs ≡ []
+OutcomeStays outcome.OutOfFuel vs cs = ⊤
+OutcomeStays outcome.Undefined vs cs = ⊤
+OutcomeStays (outcome.Done ws) vs cs = ⊤
