@@ -1,6 +1,14 @@
 //! Programs of the source language, and the trees that they are written as.
 #![tactic(auto)]
 
+mod command;
+mod expression;
+mod fault;
+mod from_tree;
+mod part;
 mod program;
+mod shaped;
+mod word;
 
+pub use fault::ShapeFault;
 pub use program::{Cmd, Expr, Func, Program};
