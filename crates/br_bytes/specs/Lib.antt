@@ -1,2 +1,4 @@
 pub mod Memory
 pub mod Number
+pub mod Buffers
+pub mod Called

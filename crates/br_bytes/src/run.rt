@@ -29,6 +29,6 @@ pub enum Outcome {
     OutOfFuel,
     /// It did what the language gives no meaning.
     Undefined,
-    /// It was to take a buffer, and the next choice is none that it can take.
+    /// It was to take a buffer, and no choice is left or the next is none that it can take.
     NoChoice,
 }

@@ -1,26 +1,18 @@
 -- What it means that an image implements a program (Integration Verification across Software and
 -- Hardware for a Simple Embedded System, PLDI 2021: the compiler's theorem and the machine's).
 use Rattle.std.specs.Prelude.{◌≡◌, ◌⊎◌, ℕ, ◌+◌, ◌*◌, ◌^◌, ◌<◌, ◌≤◌, List, [], ◌∷◌, length, map, Some, slice_get}
-use Rattle.std.specs.List.{AllByRecursion}
 use Rattle.br_bytes.specs.declared.run.Choice.{Choice}
 use Rattle.br_bytes.specs.declared.run.Outcome.TheVariants.{Undefined}
 use Rattle.br_bytes.specs.Memory.{Memory}
+use Rattle.br_bytes.specs.Buffers.{AreWords, AreChoices}
 use Rattle.br_syntax.specs.declared.program.Func.{Func}
 use Rattle.br_measure.specs.Bulk.{bulk}
 use Rattle.br_measure.specs.Measure.{measure}
-use Rattle.br_source_meaning.specs.Calls.{Called, call}
+use Rattle.br_source_meaning.specs.Calls.{call}
 use Rattle.br_image.specs.declared.images.Entry.{Entry}
 use Rattle.br_image.specs.declared.images.Image.{Image}
 use Rattle.br_machine.specs.Start.{Leftover, IsLeftover, IsInData, start}
 use Rattle.br_emit.specs.Reaches.{Reaches}
-
--- words are numbers below 2 ^ 32
-abbrev pub AreWords : List ℕ → Type 0
-AreWords = AllByRecursion (λ v. v < 2 ^ 32)
-
--- each choice is at an address that is a word, and holds bytes
-abbrev pub AreChoices : List Choice → Type 0
-AreChoices = AllByRecursion (λ c. (c.addr < 2 ^ 32) × AllByRecursion (λ b. b < 256) c.bytes)
 
 -- instructions for each unit of bulk
 abbrev pub rate : ℕ

@@ -1,7 +1,8 @@
 -- What an instruction does that breaks no rule, by cases on the instruction (RISC-V unprivileged
 -- manual, chapters 2.4 to 2.6 and the M extension).
-use Rattle.std.specs.Prelude.{ℕ, ◌+◌, ◌-◌, ◌*◌, ◌%◌, ◌^◌, nat_lt, if◌then◌else◌, Option, Some, None}
+use Rattle.std.specs.Prelude.{ℕ, ◌+◌, ◌-◌, ◌*◌, ◌%◌, ◌^◌, if◌then◌else◌, Option, Some, None}
 use Rattle.br_words.specs.Words.{wrapped}
+use Rattle.br_words.specs.Bits.{sign_extended}
 use Rattle.br_bytes.specs.Number.{number_of, low_bytes}
 use Rattle.br_rv32im.specs.declared.instruction.Ins.{Ins}
 use Rattle.br_rv32im.specs.declared.instruction.Ins.TheVariants.{Upper, Jal, Jalr, Branch, Load, Store, Imm, Shift, Reg, Ecall}
@@ -33,10 +34,6 @@ computes rd v s = with_register rd v (moved_on s)
 -- a register takes the address behind this instruction, and the machine goes on at another
 abbrev pub jumps : ℕ → ℕ → MachineState → MachineState
 jumps rd target s = with_register rd (next_pc s) (at_pc target s)
-
--- the word that a number of n bits is, with copies of its upper bit
-abbrev pub sign_extended : ℕ → ℕ → ℕ
-sign_extended n v = if nat_lt v (2 ^ (n - 1)) then v else v + 2 ^ 32 - 2 ^ n
 
 -- what a load makes of the bytes that it reads
 abbrev pub loaded : LoadOp → ℕ → ℕ

@@ -1,10 +1,10 @@
 -- What calls of a program's functions do, and how they end.
 use Rattle.std.specs.Prelude.{ℕ, zero, suc, List, [], ◌∷◌, Option, Some, None}
-use Rattle.br_bytes.specs.declared.run.Event.{Event}
 use Rattle.br_bytes.specs.declared.run.Choice.{Choice}
 use Rattle.br_bytes.specs.declared.run.Outcome.{Outcome}
 use Rattle.br_bytes.specs.declared.run.Outcome.TheVariants as outcome
 use Rattle.br_bytes.specs.Memory.{Memory}
+pub use Rattle.br_bytes.specs.Called.{Called}
 use Rattle.br_syntax.specs.declared.program.Func.{Func}
 use Rattle.br_syntax.specs.Functions.{function_named}
 use Rattle.br_source_meaning.specs.Values.{Name, Locals, no_locals}
@@ -44,12 +44,6 @@ enter call None args s = Stops Undefined s
 abbrev pub function_of : List Func → ℕ → Callee
 function_of fs zero x args s = Stops OutOfFuel s
 function_of fs (suc depth) x args s = enter (function_of fs depth) (function_named fs x) args s
-
--- how a call ended, the events that it made, and the memory at that moment
-pub record Called : Type 0 where
-  pub outcome : Outcome
-  pub trace : List Event
-  pub memory : Memory
 
 abbrev pub outcome_of : End → Outcome
 outcome_of (Waiting a) = outcome.Waiting a

@@ -1,15 +1,16 @@
--- What commands do: big steps over the tree of a command. A run goes on in a state or ends.
+-- What commands do: big steps over the tree of a command. A run goes on in a state or ends. The
+-- language is a profile after bedrock2's (Integration Verification across Software and Hardware for a
+-- Simple Embedded System, PLDI 2021): memory is partial, devices are asked from outside, and the
+-- places of buffers are chosen from outside.
 use Rattle.std.specs.Prelude.{ℕ, zero, suc, ◌+◌, ◌%◌, Bool, true, false, not, ◌&&◌, List, [], ◌∷◌, ◌++◌, length, map, Option, Some, None, nat_lt, nat_le, ◌==◌, codes}
-use Rattle.std.specs.List.{list_all}
 use Rattle.std.specs.Str.{bytes_eq}
-use Rattle.std.specs.FinMap as finite
 use Rattle.br_words.specs.Device.{is_device_word}
 use Rattle.br_words.specs.Size.{size_of}
 use Rattle.br_bytes.specs.declared.run.Event.{Event}
 use Rattle.br_bytes.specs.declared.run.Event.TheVariants.{Read, Write}
 use Rattle.br_bytes.specs.declared.run.Choice.{Choice}
 use Rattle.br_bytes.specs.Memory.{Memory, put_number, with_bytes}
-use Rattle.br_syntax.specs.declared.program.Expr.{Expr}
+pub use Rattle.br_bytes.specs.Buffers.{is_good, without_range}
 use Rattle.br_syntax.specs.declared.program.Cmd.{Cmd}
 use Rattle.br_syntax.specs.declared.program.Cmd.TheOpen.{Cmd-F}
 use Rattle.br_syntax.specs.declared.program.Cmd.TheFolds.{fold-Cmd}
@@ -77,23 +78,6 @@ happens event s = record s { trace = s.trace ++ event ∷ [] }
 
 -- ---- buffers
 
--- no address from `a` on, as many as the bytes, is in the memory
-abbrev pub are_free : Memory → ℕ → List ℕ → Bool
-are_free m a [] = true
-are_free m a (b ∷ bs) = not (finite.contains_key m a) && are_free m (a + 1) bs
-
--- a choice that a buffer of n bytes can take: an address that is a multiple of 4, n bytes, in the
--- stack region 0x80200000 up to 0x80300000, and apart from the memory
-abbrev pub is_good : ℕ → Memory → Choice → Bool
-is_good n m c =
-    (c.addr % 4 == 0) && (length c.bytes == n)
-    && nat_le 0x80200000 c.addr && nat_le (c.addr + n) 0x80300000
-    && are_free m c.addr c.bytes
-
--- the memory without the n addresses from `a` on
-abbrev pub without_range : Memory → ℕ → ℕ → Memory
-without_range m a n = finite.retain_keys m (λ q. not (nat_le a q && nat_lt q (a + n)))
-
 -- the body runs while the next choice is in memory and its address in the variable
 abbrev pub with_buffer : Name → ℕ → (State → Run) → State → Run
 with_buffer x n body s = take_choice s.choices
@@ -156,7 +140,7 @@ pub data Returned : Type 0 where
 abbrev pub Callee : Type 0
 Callee = Name → List ℕ → State → Returned
 
--- variables set to words in turn
+-- variables set to words in turn. An accepted program has as many words here as variables.
 abbrev pub with_locals : List Name → List ℕ → Locals → Locals
 with_locals (x ∷ xs) (v ∷ vs) locals = with_locals xs vs (with_local x v locals)
 with_locals [] vs locals = locals

@@ -1,12 +1,11 @@
 -- The word that an expression stands for, where it stands for one.
-use Rattle.std.specs.Prelude.{ℕ, ◌+◌, Bool, List, [], ◌∷◌, length, take, drop, Option, Some, None, nat_le, if◌then◌else◌}
+use Rattle.std.specs.Prelude.{ℕ, List, [], ◌∷◌, Option, Some, None, if◌then◌else◌}
 use Rattle.std.specs.Str.{bytes_eq}
 use Rattle.std.specs.Option.{option_and_then}
-use Rattle.br_words.specs.declared.operation.BinOp.{BinOp}
 use Rattle.br_words.specs.Words.{value_of_op}
 use Rattle.br_words.specs.Size.{size_of}
-use Rattle.br_bytes.specs.Number.{number_of}
 use Rattle.br_bytes.specs.Memory.{Memory, get_number}
+use Rattle.br_bytes.specs.Buffers.{table_number}
 use Rattle.br_syntax.specs.declared.program.Expr.{Expr}
 use Rattle.br_syntax.specs.declared.program.Expr.TheOpen.{Expr-F}
 use Rattle.br_syntax.specs.declared.program.Expr.TheFolds.{fold-Expr}
@@ -28,11 +27,6 @@ with_local x v locals y = if bytes_eq y x then Some v else locals y
 
 abbrev pub without_local : Name → Locals → Locals
 without_local x locals y = if bytes_eq y x then None else locals y
-
--- the n bytes at offset i of a table, or None where one of them lies past its end
-abbrev pub table_number : List ℕ → ℕ → ℕ → Option ℕ
-table_number bytes i n =
-    if nat_le (i + n) (length bytes) then Some (number_of (take n (drop i bytes))) else None
 
 -- an operation on two words, or None where one is missing
 abbrev pub both : (ℕ → ℕ → ℕ) → Option ℕ → Option ℕ → Option ℕ
