@@ -1,5 +1,5 @@
 -- Straight code: one instruction at a time, and one stretch of steps behind another.
-use Rattle.std.proofs.Common.{◌≡◌, ◌≢◌, ◌⊎◌, inl, inr, ℕ, zero, suc, ◌+◌, ◌-◌, ◌*◌, ◌^◌, ◌<◌, ◌≤◌, List, [], ◌∷◌, ◌++◌, length, map, Option, Some, None, Bool, true, false, refl, sym, ap, subst, ◌∙◌, arith, append_assoc}
+use Rattle.std.proofs.Common.{◌≡◌, ◌≢◌, ◌⊎◌, inl, inr, ℕ, zero, suc, ◌+◌, ◌-◌, ◌*◌, ◌^◌, ◌<◌, ◌≤◌, List, [], ◌∷◌, ◌++◌, length, map, Option, Some, None, Bool, true, false, refl, sym, ap, subst, ◌∙◌, arith, append_assoc, length-append}
 use Rattle.std.specs.Prelude.{slice_get, slice_index, slice_set, ◌==◌, nat_lt, nat_le, ◌%◌, ◌&&◌, ◌||◌, if◌then◌else◌, ℤ}
 use Rattle.std.proofs.Math.ListN.{length-set}
 use Rattle.std.proofs.lemmas.Bool.{eqb-true}
@@ -194,3 +194,40 @@ step_writes_word code low m j w rs1 rs2 a imm has at small row pc is device =
     ∙ ap (λ t. if t then (stored a (register s rs2) s, Ran) else (moved_on s, Wrote a (register s rs2))) (parts.2) in
     steps_by code low m _ j w (Store Sw rs1 rs2 imm) (moved_on s) (Wrote a (register s rs2)) has at small row pc fine does refl refl
     (subst (λ b. IsAbove low (b, 4)) (sym is) (above_devices low a device))
+
+-- ---- code at a place
+
+-- these words stand in the code from word j on
+abbrev pub HasAt : List ℕ → ℕ → List ℕ → Type 0
+HasAt code j [] = Unit {0}
+HasAt code j (w ∷ ws) = (slice_get code j ≡ Some w) × HasAt code (j + 1) ws
+
+pub HasAt-front : (code : List ℕ) (j : ℕ) (ws vs : List ℕ) → HasAt code j (ws ++ vs) → HasAt code j ws
+HasAt-front code j [] vs has = tt
+HasAt-front code j (w ∷ ws) vs has = (has.0, HasAt-front code (j + 1) ws vs has.1)
+
+pub HasAt-back : (code : List ℕ) (j : ℕ) (ws vs : List ℕ) → HasAt code j (ws ++ vs) → HasAt code (j + length ws) vs
+HasAt-back code j [] vs has = let same : j ≡ j + 0 = omega arith in subst (λ i. HasAt code i vs) same has
+HasAt-back code j (w ∷ ws) vs has =
+    let same : j + 1 + length ws ≡ j + suc (length ws) = omega arith in
+    subst (λ i. HasAt code i vs) same (HasAt-back code (j + 1) ws vs has.1)
+
+-- a list stands in itself, behind whatever is in front of it
+pub HasAt-whole : (front ws : List ℕ) → HasAt (front ++ ws) (length front) ws
+HasAt-whole front [] = tt
+HasAt-whole front (w ∷ ws) =
+    let whole : (front ++ w ∷ []) ++ ws ≡ front ++ w ∷ ws = append_assoc front (w ∷ []) ws in
+    let len : length (front ++ w ∷ []) ≡ length front + 1 = length-append front (w ∷ []) in
+    (slice_get-seam front w ws, subst (λ i. HasAt (front ++ w ∷ ws) i ws) len (subst (λ c. HasAt c (length (front ++ w ∷ [])) ws) whole (HasAt-whole (front ++ w ∷ []) ws)))
+  where
+    slice_get-seam : (front : List ℕ) (w : ℕ) (ws : List ℕ) → slice_get (front ++ w ∷ ws) (length front) ≡ Some w
+    slice_get-seam [] w ws = refl
+    slice_get-seam (x ∷ front) w ws = slice_get-seam front w ws
+
+-- code that RAM keeps is the machine's code still
+pub HasCode-same : (code : List ℕ) (s s' : MachineState) → HasCode code s → s'.code_words ≡ s.code_words → ((p : ℕ) → p < 4 * length code → slice_index s'.ram p ≡ slice_index s.ram p) → HasCode code s'
+HasCode-same code s s' has count same = record { count = count ∙ has.count; bytes = λ i h. same i h ∙ has.bytes i h }
+
+pub HasCode-computes : (code : List ℕ) (s : MachineState) (rd v : ℕ) → HasCode code s → HasCode code (computes rd v s)
+HasCode-computes code s rd v has =
+    HasCode-same code s (computes rd v s) has (code_words-with_register rd v (moved_on s)) (λ p h. ap (λ ram. slice_index ram p) (ram-with_register rd v (moved_on s)))
