@@ -1,6 +1,6 @@
 -- The instructions for sums that are written to device words. A part of a sum that is still needed
 -- waits in a word of the stack while the next part is computed.
-use Rattle.std.specs.Prelude.{ℕ, ◌+◌, ◌-◌, ◌/◌, ◌%◌, nat_lt, ◌&&◌, ◌==◌, if◌then◌else◌, ℤ, pos, negsuc, List, [], ◌∷◌, ◌++◌, Option, Some, None, codes}
+use Rattle.std.specs.Prelude.{ℕ, ◌+◌, ◌-◌, ◌/◌, ◌%◌, ◌^◌, nat_lt, if◌then◌else◌, ℤ, pos, negsuc, List, [], ◌∷◌, ◌++◌, Option, Some, None, codes}
 use Rattle.std.specs.Str.{bytes_eq}
 use Rattle.br_words.specs.declared.operation.BinOp.{BinOp}
 use Rattle.br_words.specs.declared.operation.BinOp.TheVariants as op
@@ -49,13 +49,13 @@ operation_code op.Add a b = both_code a b (Reg Add 5 6 5)
 operation_code o a b = None
 
 abbrev pub expression_step : Expr-F (Option (List Ins)) → Option (List Ins)
-expression_step (Expr-F.Literal n) = Some (constant_code n)
+expression_step (Expr-F.Literal n) = if nat_lt n (2 ^ 32) then Some (constant_code n) else None
 expression_step (Expr-F.Op o a b) = operation_code o a b
 expression_step (Expr-F.Var x) = None
 expression_step (Expr-F.Load size a) = None
 expression_step (Expr-F.Table size bytes i) = None
 
--- an expression into x5, or None where it is not a sum of numbers
+-- an expression into x5, or None where it is not a sum of words
 abbrev pub expression_code : Expr → Option (List Ins)
 expression_code = fold-Expr (Option (List Ins)) expression_step
 
