@@ -5,6 +5,7 @@ use Rattle.std.specs.FinMap as map
 use Rattle.br_bytes.specs.declared.run.Choice.{Choice}
 use Rattle.br_bytes.specs.Memory.{Memory}
 use Rattle.br_bytes.specs.Number.{number_of}
+use Rattle.br_bytes.specs.Layout.{stack_base, ram_end}
 
 -- words are numbers below 2 ^ 32
 abbrev pub AreWords : List ℕ → Type 0
@@ -28,13 +29,12 @@ abbrev pub are_free : Memory → ℕ → List ℕ → Bool
 are_free m a [] = true
 are_free m a (b ∷ bs) = not (map.contains_key m a) && are_free m (a + 1) bs
 
--- A choice that a buffer of n bytes can take: an address that is a multiple of 4, n bytes, between
--- 0x80200000 and 0x80300000, which are the ends of the stack region, and apart from the memory. An
--- empty buffer may stand at the upper end.
+-- A choice that a buffer of n bytes can take: an address that is a multiple of 4, n bytes, in the
+-- stack region, and apart from the memory. An empty buffer may stand at the region's upper end.
 abbrev pub is_good : ℕ → Memory → Choice → Bool
 is_good n m c =
     (c.addr % 4 == 0) && (length c.bytes == n)
-    && nat_le 0x80200000 c.addr && nat_le (c.addr + n) 0x80300000
+    && nat_le stack_base c.addr && nat_le (c.addr + n) ram_end
     && are_free m c.addr c.bytes
 
 -- the memory without the n addresses from `a` on

@@ -44,7 +44,7 @@ pub record BothComputed (code : List ℕ) (low j sp n v w : ℕ) (m : Moment) : 
   pub second : register after 5 ≡ w
   pub keeps : Keeps low sp m.machine after
 
-smaller : (code : List ℕ) (low sp h k : ℕ) → k ≤ h → Room code low sp h → Room code low sp k
+pub smaller : (code : List ℕ) (low sp h k : ℕ) → k ≤ h → Room code low sp h → Room code low sp k
 smaller code low sp h k le room = let space = room.room in record { few = room.few; bottom = room.bottom; room = omega arith; top = room.top }
 
 pushed_room : (code : List ℕ) (low sp h : ℕ) → Room code low sp (suc h) → Room code low (sp - 4) h
@@ -84,7 +84,7 @@ both_run table is1 is2 last v1 v2 h1 h2 small run1 run2 code low j sp h m le1 le
           d.keeps;
     }
 
-length-parts_code : (is1 is2 last : List Ins) → length (parts_code is1 is2 last) ≡ length is1 + 2 + length is2 + 2 + length last
+pub length-parts_code : (is1 is2 last : List Ins) → length (parts_code is1 is2 last) ≡ length is1 + 2 + length is2 + 2 + length last
 length-parts_code is1 is2 last =
     omega (arith, length-append is1 (push_code ++ (is2 ++ (pop_code ++ last))), length-append push_code (is2 ++ (pop_code ++ last)), length-append is2 (pop_code ++ last), length-append pop_code last)
 

@@ -14,13 +14,13 @@ use Rattle.br_image.specs.declared.images.Image.{Image}
 use Rattle.br_machine.specs.Start.{Leftover, IsLeftover, IsInData, start}
 use Rattle.br_emit.specs.Reaches.{Reaches}
 
--- instructions for each unit of bulk
+-- words of code, and steps for each unit of fuel, for each unit of bulk
 abbrev pub rate : ℕ
 rate = 24
 
 -- The image follows the program in a call: there are choices of buffers with which the source's call
--- is undefined, or else the machine shows that call's end, its trace and its memory, in at most
--- (fuel + 1) * 24 * bulk steps.
+-- either is undefined, or does not end for want of a choice and is shown by the machine, its end, its
+-- trace and its memory, in at most (fuel + 1) * 24 * bulk steps.
 abbrev pub Follows : List ℕ → List Func → Func → Entry → List ℕ → Memory → List ℕ → Leftover → ℕ → Type 0
 Follows code fs f entry args m answers j fuel =
     (choices : List Choice) × AreChoices choices ×

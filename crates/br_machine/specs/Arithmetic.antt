@@ -1,5 +1,5 @@
 -- What instructions compute, by numbers (RISC-V unprivileged manual, chapters 2.4 to 2.6 and the M
--- extension). Immediates are signed numbers.
+-- extension). An immediate that stands for a word is that word modulo 2 ^ 32.
 use Rattle.std.specs.Prelude.{ℕ, ◌+◌, ◌-◌, ◌*◌, ◌/◌, ◌%◌, ◌^◌, Bool, not, nat_lt, ◌==◌, if◌then◌else◌, ℤ, pos, ◌*ℤ◌, int_lt, int_div, int_rem, bit_and, bit_or, bit_xor}
 use Rattle.br_words.specs.Words.{signed, wrapped, floor_div, flag, shift_amount}
 use Rattle.br_rv32im.specs.declared.instruction.BranchOp.{BranchOp}

@@ -1,5 +1,5 @@
 -- One step of the machine: it fetches, decodes, tests the rules in their order, and has its effect.
-use Rattle.std.specs.Prelude.{ℕ, ◌+◌, ◌-◌, ◌*◌, Bool, ◌&&◌, nat_le, if◌then◌else◌, Option, Some, None}
+use Rattle.std.specs.Prelude.{ℕ, ◌+◌, ◌-◌, ◌*◌, Bool, ◌&&◌, nat_le, nat_lt, if◌then◌else◌, Option, Some, None}
 use Rattle.br_bytes.specs.Number.{number_of}
 use Rattle.br_rv32im.specs.declared.instruction.Ins.{Ins}
 use Rattle.br_rv32im.specs.Row.{row_of}
@@ -12,9 +12,9 @@ use Rattle.br_machine.specs.State.{MachineState, bytes_from}
 use Rattle.br_machine.specs.Traps.{trap_of}
 use Rattle.br_machine.specs.Effects.{effect}
 
--- the four bytes at pc are bytes of the code
+-- pc is the address of a byte of the code
 abbrev pub is_in_code : MachineState → Bool
-is_in_code s = nat_le code_base s.pc && nat_le (s.pc + 4) (code_base + 4 * s.code_words)
+is_in_code s = nat_le code_base s.pc && nat_lt s.pc (code_base + 4 * s.code_words)
 
 -- the word at pc
 abbrev pub fetched : MachineState → ℕ

@@ -34,6 +34,16 @@ next_answer m = slice_get m.answers 0
 abbrev pub next_step : Moment → MachineState × Stepped
 next_step m = step m.machine (next_answer m)
 
+-- goes on from a moment, or stays at one
+abbrev pub onward : Moment → Option Moment → (Moment → Moment) → Moment
+onward m None next = m
+onward m (Some after) next = next after
+
+-- the moment after n steps, or after fewer where a step does not go on
+abbrev pub after_steps : ℕ → Moment → Moment
+after_steps zero m = m
+after_steps (suc n) m = onward m (moment_after m (next_step m)) (after_steps n)
+
 -- ---- what a step may not do
 
 -- the bytes of the code region, the code's own and those behind it

@@ -25,7 +25,7 @@ pub enum Trap {
     Illegal,
     /// The pc is outside the code's bytes.
     FetchOutside,
-    /// A jump to a target that is no multiple of 4.
+    /// A jump, or a branch that is taken, to a target that is no multiple of 4.
     FetchMisaligned,
     /// An access outside RAM and the device windows.
     AccessOutside,
