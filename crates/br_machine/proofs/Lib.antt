@@ -1,3 +1,4 @@
 pub mod Ram
 pub mod Fetch
 pub mod Straight
+pub mod Begins
