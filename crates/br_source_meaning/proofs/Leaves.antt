@@ -169,7 +169,7 @@ leaves-read : (o : Option (List ℕ)) (xs : List Name) (s t : State) → CanLeav
 leaves-read None xs s t h is = rw is h
 leaves-read (Some vs) xs s t h is = rw is h
 
-leaves-returned : (s : State) (xs : List Name) (r : Run) → CanLeave s (last r) → CanLeave s (last_of_call (returned xs r))
+pub leaves-returned : (s : State) (xs : List Name) (r : Run) → CanLeave s (last r) → CanLeave s (last_of_call (returned xs r))
 leaves-returned s xs (Goes t) h = leaves-read (words_of xs t.locals) xs s t h refl
 leaves-returned s xs (Ends end t) h = h
 

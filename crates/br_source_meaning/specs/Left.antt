@@ -52,3 +52,15 @@ OutcomeStays outcome.NoChoice vs cs = cs ≡ []
 OutcomeStays outcome.OutOfFuel vs cs = ⊤
 OutcomeStays outcome.Undefined vs cs = ⊤
 OutcomeStays (outcome.Done ws) vs cs = ⊤
+
+-- A run, and one that was given more answers and choices: where the first goes on, or its end stays,
+-- the second comes to the same, and what it was given is still there; in any case its events begin
+-- with those of the first.
+abbrev pub IsSameWithMore : List ℕ → List Choice → Run → Run → Type 0
+IsSameWithMore vs cs (Goes t) more = more ≡ Goes (with_more vs cs t)
+IsSameWithMore vs cs (Ends end t) more = (Stays end vs cs → more ≡ Ends end (with_more vs cs t)) × BeginsWith (last more).trace t.trace
+
+-- the same of what a function does
+abbrev pub IsSameCallWithMore : List ℕ → List Choice → Returned → Returned → Type 0
+IsSameCallWithMore vs cs (Returns ws t) more = more ≡ Returns ws (with_more vs cs t)
+IsSameCallWithMore vs cs (Stops end t) more = (Stays end vs cs → more ≡ Stops end (with_more vs cs t)) × BeginsWith (last_of_call more).trace t.trace
