@@ -1,12 +1,12 @@
 -- What a call comes to where it is given more.
-use Rattle.std.proofs.Common.{◌≡◌, ◌≢◌, ℕ, zero, suc, ◌+◌, ◌-◌, ◌<◌, ◌≤◌, List, [], ◌∷◌, ◌++◌, ◌⊎◌, inl, inr, refl, sym, ap, subst, ◌∙◌, append-nil, add-zero, arith}
+use Rattle.std.proofs.Common.{◌≡◌, ◌≢◌, ℕ, suc, ◌+◌, ◌-◌, ◌≤◌, List, [], ◌++◌, ◌⊎◌, inl, inr, refl, sym, ap, subst, ◌∙◌, append-nil, add-zero, arith}
 use Rattle.br_bytes.specs.declared.run.Choice.{Choice}
 use Rattle.br_bytes.specs.declared.run.Outcome.TheVariants as outcome
 use Rattle.br_bytes.specs.Memory.{Memory}
 use Rattle.br_syntax.specs.declared.program.Cmd.{Cmd}
 use Rattle.br_syntax.specs.declared.program.Func.{Func}
 use Rattle.br_source_meaning.specs.Values.{Name, no_locals}
-use Rattle.br_source_meaning.specs.Runs.{State, End, Waiting, OutOfFuel, Undefined, NoChoice, Run, Goes, Ends, Callee, Returned, Returns, Stops, run, run_all}
+use Rattle.br_source_meaning.specs.Runs.{State, End, Waiting, OutOfFuel, Undefined, NoChoice, Run, Goes, Ends, Returned, Returns, Stops, run, run_all}
 use Rattle.br_source_meaning.specs.Calls.{run_function, function_of, Called, outcome_of, seen, call}
 use Rattle.br_source_meaning.specs.Left.{BeginsWith, last, last_of_call, with_more, Stays, OutcomeStays, IsSameWithMore, IsSameCallWithMore}
 use Rattle.br_source_meaning.proofs.Leaves.{begins_refl, leaves-function_of}

@@ -1,21 +1,19 @@
 -- What runs leave: the earlier events stay, answers and choices are taken from the front, and fuel
 -- does not grow.
-use Rattle.std.proofs.Common.{◌≡◌, ℕ, zero, suc, ◌+◌, ◌≤◌, Bool, true, false, ◌==◌, List, [], ◌∷◌, ◌++◌, map, Option, Some, None, refl, sym, ap, subst, ◌∙◌, append_assoc, append-nil, codes, arith}
+use Rattle.std.proofs.Common.{◌≡◌, ℕ, zero, suc, Bool, true, false, ◌==◌, List, [], ◌∷◌, ◌++◌, map, Option, Some, None, refl, sym, ap, subst, ◌∙◌, append_assoc, append-nil, codes, arith}
 use Rattle.std.specs.Str.{bytes_eq}
 use Rattle.br_words.specs.Device.{is_device_word}
 use Rattle.br_words.specs.Size.{size_of}
-use Rattle.br_bytes.specs.declared.run.Event.{Event}
 use Rattle.br_bytes.specs.declared.run.Event.TheVariants.{Read, Write}
 use Rattle.br_bytes.specs.declared.run.Choice.{Choice}
 use Rattle.br_bytes.specs.Memory.{put_number, with_bytes}
 use Rattle.br_syntax.specs.declared.program.Cmd.{Cmd, map-Cmd}
 use Rattle.br_syntax.specs.declared.program.Func.{Func}
 use Rattle.br_syntax.specs.declared.program.Cmd.TheOpen.{Cmd-F}
-use Rattle.br_syntax.specs.declared.program.Cmd.TheViews.{roll-Cmd}
 use Rattle.br_syntax.specs.declared.program.Cmd.TheFolds.{fold-roll-Cmd, ind-Cmd}
 use Rattle.br_syntax.specs.Functions.{function_named}
-use Rattle.br_source_meaning.specs.Values.{Name, Locals, no_locals, with_local, without_local, value, values}
-use Rattle.br_source_meaning.specs.Runs.{State, End, Waiting, OutOfFuel, Undefined, NoChoice, Run, Goes, Ends, then_do, in_turn, with_defined, choose, with_fuel, set_to, is_good, without_range, with_buffer, loop, read_device, write_device, read_by, write_by, interact, Callee, Returned, Returns, Stops, with_locals, back_in, command_step, run, run_all}
+use Rattle.br_source_meaning.specs.Values.{Name, Locals, no_locals, with_local, value, values}
+use Rattle.br_source_meaning.specs.Runs.{State, Waiting, OutOfFuel, Undefined, NoChoice, Run, Goes, Ends, then_do, in_turn, with_defined, choose, with_fuel, set_to, is_good, without_range, with_buffer, loop, read_device, write_device, read_by, write_by, interact, Callee, Returned, Returns, Stops, with_locals, back_in, command_step, run, run_all}
 use Rattle.br_source_meaning.specs.Calls.{words_of, returned, run_function, enter, function_of}
 use Rattle.br_source_meaning.specs.Left.{BeginsWith, EndsWith, CanLeave, last, last_of_call, OnlyTakes}
 

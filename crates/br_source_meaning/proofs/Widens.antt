@@ -1,9 +1,8 @@
 -- Two runs from states that differ by what the second has more: fuel, answers and choices.
-use Rattle.std.proofs.Common.{◌≡◌, ◌≢◌, ℕ, zero, suc, ◌+◌, ◌<◌, ◌≤◌, Bool, true, false, ◌==◌, List, [], ◌∷◌, ◌++◌, map, Option, Some, None, ◌⊎◌, inl, inr, refl, sym, ap, subst, ◌∙◌, codes, arith}
+use Rattle.std.proofs.Common.{◌≡◌, ◌≢◌, ℕ, zero, suc, ◌+◌, ◌<◌, ◌≤◌, Bool, true, false, ◌==◌, List, [], ◌∷◌, ◌++◌, map, Option, Some, None, ◌⊎◌, inl, inr, refl, sym, ap, subst, codes, arith}
 use Rattle.std.specs.Str.{bytes_eq}
 use Rattle.br_words.specs.Device.{is_device_word}
 use Rattle.br_words.specs.Size.{size_of}
-use Rattle.br_bytes.specs.declared.run.Event.{Event}
 use Rattle.br_bytes.specs.declared.run.Event.TheVariants.{Read, Write}
 use Rattle.br_bytes.specs.declared.run.Choice.{Choice}
 use Rattle.br_bytes.specs.Memory.{put_number, with_bytes}
@@ -14,8 +13,8 @@ use Rattle.br_syntax.specs.declared.program.Cmd.TheOpen.{Cmd-F}
 use Rattle.br_syntax.specs.declared.program.Cmd.TheViews.{roll-Cmd}
 use Rattle.br_syntax.specs.declared.program.Cmd.TheFolds.{fold-roll-Cmd, ind-Cmd}
 use Rattle.br_syntax.specs.Functions.{function_named}
-use Rattle.br_source_meaning.specs.Values.{Name, Locals, no_locals, with_local, without_local, value, values}
-use Rattle.br_source_meaning.specs.Runs.{State, End, Waiting, OutOfFuel, Undefined, NoChoice, Run, Goes, Ends, then_do, in_turn, with_defined, choose, with_fuel, set_to, is_good, without_range, with_buffer, loop, read_device, write_device, read_by, write_by, interact, Callee, Returned, Returns, Stops, with_locals, back_in, command_step, run, run_all}
+use Rattle.br_source_meaning.specs.Values.{Name, Locals, no_locals, with_local, value, values}
+use Rattle.br_source_meaning.specs.Runs.{State, End, Waiting, OutOfFuel, Undefined, NoChoice, Run, Goes, Ends, then_do, in_turn, with_defined, choose, with_fuel, set_to, is_good, without_range, with_buffer, loop, read_device, read_by, write_by, interact, Callee, Returned, Returns, Stops, with_locals, back_in, command_step, run, run_all}
 use Rattle.br_source_meaning.specs.Calls.{words_of, returned, run_function, enter, function_of}
 use Rattle.br_source_meaning.specs.Left.{BeginsWith, CanLeave, last, last_of_call, OnlyTakes}
 use Rattle.br_source_meaning.proofs.Leaves.{begins_refl, begins_trans, Takes, leaves-with_fuel, leaves-with_buffer, leaves-loop, leaves-then_do, leaves-run, leaves-run_all, leaves-function_of, leaves-returned, leaves-back_in, leave_refl}
@@ -120,12 +119,12 @@ alike-loop m n (suc low) (suc high) e body more h keeps keeps_more s a b c =
     alike-with_defined m (test s) s (λ v. choose (v == 0) (Goes s) (with_fuel s turn)) (λ v. choose (v == 0) (Goes (widen m s)) (with_fuel (widen m s) turn_more)) (λ v.
     alike-choose m (v == 0) (Goes s) (with_fuel s turn) (Goes (widen m s)) (with_fuel (widen m s) turn_more) refl
     (alike-with_fuel m s turn turn_more (λ k is.
-        let now : State = record s { fuel = k } in
-        alike-then_do m (body now) (more (widen m now)) (loop low test body) (loop high test more) (h now (omega arith))
-        (λ t goes.
-            let less = fuel-goes now (body now) t (keeps now) goes in
-            alike-loop m n low high e body more h keeps keeps_more t (omega (arith, less)) (omega (arith, less)) (omega (arith, less)))
-        (leaves-loop high test more keeps_more)) takes))
+    let now : State = record s { fuel = k } in
+    alike-then_do m (body now) (more (widen m now)) (loop low test body) (loop high test more) (h now (omega arith))
+    (λ t goes.
+    let less = fuel-goes now (body now) t (keeps now) goes in
+    alike-loop m n low high e body more h keeps keeps_more t (omega (arith, less)) (omega (arith, less)) (omega (arith, less)))
+    (leaves-loop high test more keeps_more)) takes))
 
 -- buffers
 
@@ -209,8 +208,8 @@ alike-each m n call more takes takes_more (e ∷ cs) s a =
     alike-then_do m (run call e.0 s) (run more e.0 (widen m s)) (in_turn (map (run call) (map (λ e. e.0) cs))) (in_turn (map (run more) (map (λ e. e.0) cs)))
     (e.1 s a)
     (λ t goes.
-        let less = fuel-goes s (run call e.0 s) t (leaves-run call takes e.0 s) goes in
-        alike-each m n call more takes takes_more cs t (omega (arith, less)))
+    let less = fuel-goes s (run call e.0 s) t (leaves-run call takes e.0 s) goes in
+    alike-each m n call more takes takes_more cs t (omega (arith, less)))
     (leaves-run_all more takes_more (map (λ e. e.0) cs))
 
 alike-step : (m : More) (n : ℕ) (call more : Callee) → OnlyTakes call → OnlyTakes more → CalleesAlike m n call more → (y : Cmd-F ((c : Cmd) × AreAlike m n (run call c) (run more c))) → AreAlike m n (command_step call (map-Cmd Cmd (State → Run) (run call) (map-Cmd ((c : Cmd) × AreAlike m n (run call c) (run more c)) Cmd (λ e. e.0) y))) (command_step more (map-Cmd Cmd (State → Run) (run more) (map-Cmd ((c : Cmd) × AreAlike m n (run call c) (run more c)) Cmd (λ e. e.0) y)))
@@ -243,8 +242,8 @@ alike-step m n call more takes takes_more h (Cmd-F.Call at xs callee es) s a =
     alike-with_defined m (values s.locals s.memory es) s (λ vs. with_fuel s (inside call vs)) (λ vs. with_fuel (widen m s) (inside more vs)) (λ vs.
     alike-with_fuel m s (inside call vs) (inside more vs)
     (λ k is.
-        let now : State = record s { fuel = k } in
-        alike-back_in m xs s.locals (call callee vs now) (more callee vs (widen m now)) (h callee vs now (omega arith)))
+    let now : State = record s { fuel = k } in
+    alike-back_in m xs s.locals (call callee vs now) (more callee vs (widen m now)) (h callee vs now (omega arith)))
     (λ t. leaves-back_in t xs s.locals (more callee vs t) (takes_more callee vs t)))
 alike-step m n call more takes takes_more h (Cmd-F.Interact at xs action es) s a =
     alike-with_defined m (values s.locals s.memory es) s (λ vs. interact xs action vs s) (λ vs. interact xs action vs (widen m s)) (λ vs. alike-interact m xs action vs s)
@@ -261,8 +260,8 @@ alike-run_all m n call more takes takes_more h (c ∷ cs) s a =
     alike-then_do m (run call c s) (run more c (widen m s)) (run_all call cs) (run_all more cs)
     (alike-run m n call more takes takes_more h c s a)
     (λ t goes.
-        let less = fuel-goes s (run call c s) t (leaves-run call takes c s) goes in
-        alike-run_all m n call more takes takes_more h cs t (omega (arith, less)))
+    let less = fuel-goes s (run call c s) t (leaves-run call takes c s) goes in
+    alike-run_all m n call more takes takes_more h cs t (omega (arith, less)))
     (leaves-run_all more takes_more cs)
 
 -- functions

@@ -7,4 +7,5 @@ returns c = record {
   run_all = longer_lists-run_all;
   function_of = longer_lists-function_of;
   call = longer_lists-call;
-  begins = longer_lists-begins }
+  begins = longer_lists-begins;
+}
