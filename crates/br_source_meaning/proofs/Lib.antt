@@ -1,3 +1,4 @@
 pub mod Leaves
 pub mod Widens
 pub mod Given
+pub mod Bounds

@@ -89,7 +89,7 @@ with_fuel-none : (n : ℕ) (s : State) (f : State → Run) → s.fuel ≡ 0 → 
 with_fuel-none n s f is = subst (λ k. with_fuel (record s { fuel = k }) f ≡ Ends OutOfFuel (record s { fuel = k })) (sym is) refl
 
 -- the fuel where a run goes on
-fuel-goes : (s : State) (r : Run) (t : State) → CanLeave s (last r) → r ≡ Goes t → t.fuel ≤ s.fuel
+pub fuel-goes : (s : State) (r : Run) (t : State) → CanLeave s (last r) → r ≡ Goes t → t.fuel ≤ s.fuel
 fuel-goes s r t h is = let k = subst (λ z. (last z).fuel ≤ s.fuel) is h.3 in k
 
 -- loops, where the fuel is at most the bound
@@ -284,7 +284,7 @@ alike-run_function m n call more takes takes_more h f args s a =
     let inside : State = record s { locals = with_locals f.args args no_locals } in
     alike-returned m f.results (run_all call f.body inside) (run_all more f.body (widen m inside)) (alike-run_all m n call more takes takes_more h f.body inside a)
 
-alike-enter : (m : More) (n : ℕ) (call more : Callee) → OnlyTakes call → OnlyTakes more → CalleesAlike m n call more → (o : Option Func) (args : List ℕ) (s : State) → s.fuel ≤ n → AlikeCalls m (enter call o args s) (enter more o args (widen m s))
+pub alike-enter : (m : More) (n : ℕ) (call more : Callee) → OnlyTakes call → OnlyTakes more → CalleesAlike m n call more → (o : Option Func) (args : List ℕ) (s : State) → s.fuel ≤ n → AlikeCalls m (enter call o args s) (enter more o args (widen m s))
 alike-enter m n call more takes takes_more h None args s a = inl refl
 alike-enter m n call more takes takes_more h (Some f) args s a = alike-run_function m n call more takes takes_more h f args s a
 

@@ -3,4 +3,4 @@
 
 mod laws;
 
-pub use laws::{longer_lists_stay, more_fuel_goes_on, runs_only_take};
+pub use laws::{bounds_do_not_show, longer_lists_stay, more_fuel_goes_on, runs_only_take};
