@@ -24,12 +24,12 @@ abbrev pub last : Run → State
 last (Goes s) = s
 last (Ends end s) = s
 
--- the state that a call has come to
+-- the state that a call of a function has come to
 abbrev pub last_of_call : Returned → State
 last_of_call (Returns vs s) = s
 last_of_call (Stops end s) = s
 
--- from every state, what functions leave can be left
+-- from every state, calls of functions come only to what a run can leave
 abbrev pub OnlyTakes : Callee → Type 0
 OnlyTakes call = (f : Name) (vs : List ℕ) (s : State) → CanLeave s (last_of_call (call f vs s))
 
