@@ -1,3 +1,4 @@
 mod Pieces
 mod Sums
 mod Writes
+mod Whole

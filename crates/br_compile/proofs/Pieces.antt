@@ -83,27 +83,27 @@ pub record Table : Type 0 where
   pub decoded : (i : Ins) → Fits i → row_of (word_of i) ≡ Some i
 
 -- the address behind word j
-pub next_word : (code : List ℕ) (low sp h j pc : ℕ) → Room code low sp h → j < length code → pc ≡ code_base + 4 * j → (pc + 4) % 2 ^ 32 ≡ code_base + 4 * (j + 1)
-next_word code low sp h j pc room inside is = let few = room.few in omega arith
+pub next_word : (code : List ℕ) (j pc : ℕ) → length code ≤ 262144 → j < length code → pc ≡ code_base + 4 * j → (pc + 4) % 2 ^ 32 ≡ code_base + 4 * (j + 1)
+next_word code j pc few inside is = omega arith
 
-pub Placed-computes : (code : List ℕ) (low h j sp rd v : ℕ) (s : MachineState) → Room code low sp h → j < length code → Placed code j sp s → 2 ≢ rd → Placed code (j + 1) sp (computes rd v s)
-Placed-computes code low h j sp rd v s room inside placed ne = record {
-    has = HasCode-computes code s rd v placed.has;
-    pc = pc-with_register rd v (moved_on s) ∙ next_word code low sp h j s.pc room inside placed.pc;
-    pointer = register-with_register_other rd 2 v (moved_on s) ne ∙ placed.pointer;
-    registers = length-with_register rd v (moved_on s) ∙ placed.registers;
-    ram = ap length (ram-with_register rd v (moved_on s)) ∙ placed.ram;
-  }
+pub Placed-computes : (code : List ℕ) (j sp rd v : ℕ) (s : MachineState) → length code ≤ 262144 → j < length code → Placed code j sp s → 2 ≢ rd → Placed code (j + 1) sp (computes rd v s)
+Placed-computes code j sp rd v s few inside placed ne = record {
+  has = HasCode-computes code s rd v placed.has;
+  pc = pc-with_register rd v (moved_on s) ∙ next_word code j s.pc few inside placed.pc;
+  pointer = register-with_register_other rd 2 v (moved_on s) ne ∙ placed.pointer;
+  registers = length-with_register rd v (moved_on s) ∙ placed.registers;
+  ram = ap length (ram-with_register rd v (moved_on s)) ∙ placed.ram;
+}
 
 -- the stack pointer itself is set
-pub Placed-moves : (code : List ℕ) (low h j sp v : ℕ) (s : MachineState) → Room code low sp h → j < length code → Placed code j sp s → Placed code (j + 1) v (computes 2 v s)
-Placed-moves code low h j sp v s room inside placed = record {
-    has = HasCode-computes code s 2 v placed.has;
-    pc = next_word code low sp h j s.pc room inside placed.pc;
-    pointer = register-with_register_same 2 v (moved_on s) (omega arith) (omega (arith, placed.registers));
-    registers = length-with_register 2 v (moved_on s) ∙ placed.registers;
-    ram = placed.ram;
-  }
+pub Placed-moves : (code : List ℕ) (j sp v : ℕ) (s : MachineState) → length code ≤ 262144 → j < length code → Placed code j sp s → Placed code (j + 1) v (computes 2 v s)
+Placed-moves code j sp v s few inside placed = record {
+  has = HasCode-computes code s 2 v placed.has;
+  pc = next_word code j s.pc few inside placed.pc;
+  pointer = register-with_register_same 2 v (moved_on s) (omega arith) (omega (arith, placed.registers));
+  registers = length-with_register 2 v (moved_on s) ∙ placed.registers;
+  ram = placed.ram;
+}
 
 pub Keeps-computes : (low high rd v : ℕ) (s : MachineState) → Keeps low high s (computes rd v s)
 Keeps-computes low high rd v s = record { bytes = λ p out. ap (λ ram. slice_index ram p) (ram-with_register rd v (moved_on s)) }
@@ -145,14 +145,14 @@ constant_runs table code low j sp h n m small room placed has =
     let high = high_part n * 4096 in
     let s1 = computes 5 high s in
     let m1 = record m { machine = s1 } in
-    let p1 = Placed-computes code low h j sp 5 high s room here placed (omega arith) in
+    let p1 = Placed-computes code j sp 5 high s room.few here placed (omega arith) in
     let first = lui table code low j sp 5 (high_part n) m placed has.0 (omega arith) (omega arith) in
     let five : register s1 5 ≡ high = register-with_register_same 5 high (moved_on s) (omega arith) (omega (arith, placed.registers)) in
     let v = (register s1 5 + wrapped (low_part n)) % 2 ^ 32 in
     let is : v ≡ n = ap (λ a. (a + wrapped (low_part n)) % 2 ^ 32) five ∙ parts_of_constant n small in
     let s2 = computes 5 v s1 in
     let second = addi table code low (j + 1) sp 5 5 (low_part n) m1 p1 has.1.0 (omega arith) (omega arith) (low_part_fits n) in
-    let p2 = Placed-computes code low h (j + 1) sp 5 v s1 room there p1 (omega arith) in
+    let p2 = Placed-computes code (j + 1) sp 5 v s1 room.few there p1 (omega arith) in
     record {
       after = s2;
       runs = (m1, first, (record m { machine = s2 }, second, refl));
@@ -172,7 +172,7 @@ InsAt-front code j a b has = HasAt-front code j (map word_of a) (map word_of b) 
 pub InsAt-back : (code : List ℕ) (j : ℕ) (a b : List Ins) → InsAt code j (a ++ b) → InsAt code (j + length a) b
 InsAt-back code j a b has =
     subst (λ n. HasAt code (j + n) (map word_of b)) (length-map a word_of)
-      (HasAt-back code j (map word_of a) (map word_of b) (subst (HasAt code j) (map-append word_of a b) has))
+    (HasAt-back code j (map word_of a) (map word_of b) (subst (HasAt code j) (map-append word_of a b) has))
 
 -- a word of RAM at the upper end of what may change, or above it, is as before
 pub ram_word-same : (low high a : ℕ) (s s' : MachineState) → high ≤ a → code_base ≤ a → Keeps low high s s' → ram_word s' a ≡ ram_word s a
@@ -198,7 +198,7 @@ push_runs table code low j sp h v m small five room placed has =
     let s1 = computes 2 v1 s in
     let m1 = record m { machine = s1 } in
     let first = addi table code low j sp 2 2 (negsuc 3) m placed has.0 (omega arith) (omega arith) (omega (arith, ints), omega (arith, ints)) in
-    let p1 : Placed code (j + 1) (sp - 4) s1 = subst (λ q. Placed code (j + 1) q s1) is (Placed-moves code low (suc h) j sp v1 s room here placed) in
+    let p1 : Placed code (j + 1) (sp - 4) s1 = subst (λ q. Placed code (j + 1) q s1) is (Placed-moves code j sp v1 s few here placed) in
     let i = Store Sw 2 5 (pos 0) in
     let fits : Fits i = (omega arith, omega arith, (omega (arith, ints), omega (arith, ints))) in
     let a = sp - 4 in
@@ -214,13 +214,13 @@ push_runs table code low j sp h v m small five room placed has =
       runs = (m1, first, (record m { machine = s2 }, second, refl));
       placed = record {
         has = HasCode-same code s1 s2 p1.has refl (λ p l. index-with_bytes_from bytes s1.ram (a - code_base) p (inl (omega arith)));
-        pc = next_word code low sp (suc h) (j + 1) s1.pc room there p1.pc ∙ (let same : code_base + 4 * (j + 1 + 1) ≡ code_base + 4 * (j + 2) = omega arith in same);
+        pc = next_word code (j + 1) s1.pc few there p1.pc ∙ (let same : code_base + 4 * (j + 1 + 1) ≡ code_base + 4 * (j + 2) = omega arith in same);
         pointer = p1.pointer;
         registers = p1.registers;
         ram = length-with_bytes_from bytes s1.ram (a - code_base) ∙ p1.ram;
       };
       word = ap (λ w. number_of (bytes_from (with_bytes_from s1.ram (a - code_base) (low_bytes 4 w)) (a - code_base) 4)) five1
-        ∙ word_at-with_bytes_from s1.ram (a - code_base) v small (omega (arith, p1.ram));
+          ∙ word_at-with_bytes_from s1.ram (a - code_base) v small (omega (arith, p1.ram));
       keeps = Keeps-then low sp s s1 s2 (Keeps-computes low sp 2 v1 s) keeps2;
     }
   where
@@ -250,14 +250,13 @@ pop_runs table code low j sp h v w m word five room placed has =
     let first = step_loads_word code low m j (word_of i) 6 2 a (pos 0) placed.has has.0 (table.small i fits) (table.decoded i fits) placed.pc at (omega arith) (omega arith) (λ b l u st. omega arith) in
     let s1 = computes 6 (ram_word s a) s in
     let m1 = record m { machine = s1 } in
-    let below : Room code low (sp - 4) h = record { few = few; bottom = bottom; room = omega arith; top = omega arith } in
-    let p1 = Placed-computes code low h j a 6 (ram_word s a) s below here placed (omega arith) in
+    let p1 = Placed-computes code j a 6 (ram_word s a) s few here placed (omega arith) in
     let six : register s1 6 ≡ v = register-with_register_same 6 (ram_word s a) (moved_on s) (omega arith) (omega (arith, placed.registers)) ∙ word in
     let v2 = (register s1 2 + wrapped (pos 4)) % 2 ^ 32 in
     let is : v2 ≡ sp = ap (λ q. (q + wrapped (pos 4)) % 2 ^ 32) p1.pointer ∙ omega arith in
     let second = addi table code low (j + 1) a 2 2 (pos 4) m1 p1 has.1.0 (omega arith) (omega arith) (omega (arith, ints), omega (arith, ints)) in
     let s2 = computes 2 v2 s1 in
-    let p2 : Placed code (j + 1 + 1) sp s2 = subst (λ q. Placed code (j + 1 + 1) q s2) is (Placed-moves code low h (j + 1) a v2 s1 below there p1) in
+    let p2 : Placed code (j + 1 + 1) sp s2 = subst (λ q. Placed code (j + 1 + 1) q s2) is (Placed-moves code (j + 1) a v2 s1 few there p1) in
     record {
       after = s2;
       runs = (m1, first, (record m { machine = s2 }, second, refl));

@@ -72,15 +72,15 @@ both_run table is1 is2 last v1 v2 h1 h2 small run1 run2 code low j sp h m le1 le
     record {
       after = d.after;
       runs = Runs-append low (length is1 + 2 + length is2) 2 m mc md
-        (Runs-append low (length is1 + 2) (length is2) m mb mc (Runs-append low (length is1) 2 m ma mb a.runs b.runs) c.runs) d.runs;
+          (Runs-append low (length is1 + 2) (length is2) m mb mc (Runs-append low (length is1) 2 m ma mb a.runs b.runs) c.runs) d.runs;
       placed = let same : j + length is1 + 2 + length is2 + 2 ≡ j + (length is1 + 2 + length is2 + 2) = omega arith in subst (λ q. Placed code q sp d.after) same d.placed;
       first = d.first;
       second = d.second;
       keeps =
-        Keeps-then low sp m.machine c.after d.after
+          Keeps-then low sp m.machine c.after d.after
           (Keeps-then low sp m.machine b.after c.after
-            (Keeps-then low sp m.machine a.after b.after a.keeps b.keeps)
-            (Keeps-wider low (sp - 4) sp b.after c.after (omega arith) c.keeps))
+          (Keeps-then low sp m.machine a.after b.after a.keeps b.keeps)
+          (Keeps-wider low (sp - 4) sp b.after c.after (omega arith) c.keeps))
           d.keeps;
     }
 
@@ -111,7 +111,7 @@ sum_computes table is1 is2 v1 v2 h1 h2 h small le1 le2 run1 run2 code low j sp m
     let is : v ≡ (v1 + v2) % 2 ^ 32 = ap (λ x. (x + register s 5) % 2 ^ 32) b.first ∙ ap (λ x. (v1 + x) % 2 ^ 32) b.second in
     let step = add table code low (j + n) sp 5 6 5 mb b.placed at (omega arith) (omega arith) (omega arith) in
     let s' = computes 5 v s in
-    let p = Placed-computes code low h (j + n) sp 5 v s room (within_code code (j + n) _ at) b.placed (omega arith) in
+    let p = Placed-computes code (j + n) sp 5 v s room.few (within_code code (j + n) _ at) b.placed (omega arith) in
     let len : n + 1 ≡ length (parts_code is1 is2 (Reg Add 5 6 5 ∷ [])) = sym (length-parts_code is1 is2 (Reg Add 5 6 5 ∷ [])) in
     let place : j + n + 1 ≡ j + length (parts_code is1 is2 (Reg Add 5 6 5 ∷ [])) = omega (arith, len) in
     record {
@@ -179,8 +179,8 @@ sum table a b is1 is2 code1 code2 =
       word = (ca.word + cb.word) % 2 ^ 32;
       small = omega arith;
       value = λ locals m. value_of locals m (Expr-F.Op op.Add a.0 b.0)
-        ∙ ap (λ v. both (λ x y. (x + y) % 2 ^ 32) v (value locals m b.0)) (ca.value locals m)
-        ∙ ap (λ v. both (λ x y. (x + y) % 2 ^ 32) (Some ca.word) v) (cb.value locals m);
+          ∙ ap (λ v. both (λ x y. (x + y) % 2 ^ 32) v (value locals m b.0)) (ca.value locals m)
+          ∙ ap (λ v. both (λ x y. (x + y) % 2 ^ 32) (Some ca.word) v) (cb.value locals m);
       computes = sum_computes table is1 is2 ca.word cb.word (expression_bulk a.0) (expression_bulk b.0) h ca.small (omega (arith, size)) (omega (arith, size)) ca.computes cb.computes;
       short = omega (arith, size, length-parts_code is1 is2 (Reg Add 5 6 5 ∷ []));
     }

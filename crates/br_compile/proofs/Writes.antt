@@ -49,12 +49,12 @@ Makes is es h =
 
 Placed-moved_on : (code : List ℕ) (low h j sp : ℕ) (s : MachineState) → Room code low sp h → j < length code → Placed code j sp s → Placed code (j + 1) sp (moved_on s)
 Placed-moved_on code low h j sp s room inside placed = record {
-    has = HasCode-same code s (moved_on s) placed.has refl (λ p l. refl);
-    pc = next_word code low sp h j s.pc room inside placed.pc;
-    pointer = placed.pointer;
-    registers = placed.registers;
-    ram = placed.ram;
-  }
+  has = HasCode-same code s (moved_on s) placed.has refl (λ p l. refl);
+  pc = next_word code j s.pc room.few inside placed.pc;
+  pointer = placed.pointer;
+  registers = placed.registers;
+  ram = placed.ram;
+}
 
 write_makes : Table → (a v : Expr) (is1 is2 : List Ins) (ca : IsComputed a is1) (cv : IsComputed v is2) (h : ℕ) → expression_bulk a ≤ h → suc (expression_bulk v) ≤ h → is_device_word ca.word ≡ true
     → Makes (parts_code is1 is2 (Store Sw 6 5 (pos 0) ∷ [])) (event.Write ca.word cv.word ∷ []) h
@@ -111,15 +111,20 @@ write_agrees table a v is1 is2 ca cv h le1 le2 r s is = by (is_device_word ca.wo
   where
     does : r ≡ write_device ca.word cv.word s
     does = is ca.word cv.word (ca.value s.locals s.memory) (cv.value s.locals s.memory)
+
     by : (b : Bool) → is_device_word ca.word ≡ b → Agrees r s (parts_code is1 is2 (Store Sw 6 5 (pos 0) ∷ [])) h
     by false outside = inl (s, does ∙ ap (λ b. choose b (Goes (happens (event.Write ca.word cv.word) s)) (Ends Undefined s)) outside)
     by true device =
-        inr (event.Write ca.word cv.word ∷ [], happens (event.Write ca.word cv.word) s, record {
-          goes = does ∙ ap (λ b. choose b (Goes (happens (event.Write ca.word cv.word) s)) (Ends Undefined s)) device;
-          trace = refl;
-          memory = refl;
-          makes = write_makes table a v is1 is2 ca cv h le1 le2 device;
-        })
+        inr (
+          event.Write ca.word cv.word ∷ [],
+          happens (event.Write ca.word cv.word) s,
+          record {
+            goes = does ∙ ap (λ b. choose b (Goes (happens (event.Write ca.word cv.word) s)) (Ends Undefined s)) device;
+            trace = refl;
+            memory = refl;
+            makes = write_makes table a v is1 is2 ca cv h le1 le2 device;
+          },
+        )
 
 -- both parts have code where the whole has
 both_parts : (a v : Expr) (is : List Ins) (last : Ins) → both_code (expression_code a) (expression_code v) last ≡ Some is
@@ -144,13 +149,14 @@ interact_agrees table c at [] action (a ∷ v ∷ []) is out named code =
     let ca = expression_computed table a is1 parts.2 in
     let cv = expression_computed table v is2 parts.3 in
     let size : command_bulk c ≡ 1 + (0 + expression_bulk a + expression_bulk v) = fold_out-Cmd ℕ bulk.command_step c ∙ ap (λ x. bulk.command_step (map-Cmd Cmd ℕ command_bulk x)) out in
-    let short1 = ca.short in let short2 = cv.short in
-    (subst (λ k. length k ≤ 5 * command_bulk c) parts.4 (omega (arith, size, length-parts_code is1 is2 (Store Sw 6 5 (pos 0) ∷ []))),
-     λ call s.
-       let does : run call c s ≡ with_defined (values s.locals s.memory (a ∷ v ∷ [])) s (λ vs. interact [] action vs s) =
-         ap (λ f. f s) (fold_out-Cmd (State → Run) (command_step call) c ∙ ap (λ x. command_step call (map-Cmd Cmd (State → Run) (run call) x)) out) in
-       subst (λ k. Agrees (run call c s) s k (command_bulk c)) parts.4
-         (write_agrees table a v is1 is2 ca cv (command_bulk c) (omega (arith, size)) (omega (arith, size)) (run call c s) s (λ x y ex ey. does ∙ write_goes action a v x y s named ex ey)))
+    let short1 = ca.short in let short2 = cv.short in (
+      subst (λ k. length k ≤ 5 * command_bulk c) parts.4 (omega (arith, size, length-parts_code is1 is2 (Store Sw 6 5 (pos 0) ∷ []))),
+      λ call s.
+          let does : run call c s ≡ with_defined (values s.locals s.memory (a ∷ v ∷ [])) s (λ vs. interact [] action vs s) =
+          ap (λ f. f s) (fold_out-Cmd (State → Run) (command_step call) c ∙ ap (λ x. command_step call (map-Cmd Cmd (State → Run) (run call) x)) out) in
+          subst (λ k. Agrees (run call c s) s k (command_bulk c)) parts.4
+          (write_agrees table a v is1 is2 ca cv (command_bulk c) (omega (arith, size)) (omega (arith, size)) (run call c s) s (λ x y ex ey. does ∙ write_goes action a v x y s named ex ey)),
+    )
 interact_agrees table c at [] action [] is out named code = absurd (cc)
 interact_agrees table c at [] action (a ∷ []) is out named code = absurd (cc)
 interact_agrees table c at [] action (a ∷ v ∷ w ∷ es) is out named code = absurd (cc)
@@ -171,11 +177,11 @@ command_agrees table c is code = layer_agrees table c (out-Cmd c) is refl code
 
 makes_none : (h : ℕ) → Makes [] [] h
 makes_none h code low j sp m room placed has = record {
-    after = m.machine;
-    runs = let same : m.trace ≡ m.trace ++ [] = sym (append-nil m.trace) in ap (λ t. record m { trace = t }) same;
-    placed = let same : j ≡ j + 0 = omega arith in subst (λ q. Placed code q sp m.machine) same placed;
-    keeps = Keeps-refl low sp m.machine;
-  }
+  after = m.machine;
+  runs = let same : m.trace ≡ m.trace ++ [] = sym (append-nil m.trace) in ap (λ t. record m { trace = t }) same;
+  placed = let same : j ≡ j + 0 = omega arith in subst (λ q. Placed code q sp m.machine) same placed;
+  keeps = Keeps-refl low sp m.machine;
+}
 
 makes_both : (is1 is2 : List Ins) (es1 es2 : List Event) (h1 h2 h : ℕ) → h1 ≤ h → h2 ≤ h → Makes is1 es1 h1 → Makes is2 es2 h2 → Makes (is1 ++ is2) (es1 ++ es2) h
 makes_both is1 is2 es1 es2 h1 h2 h le1 le2 makes1 makes2 code low j sp m room placed has =
@@ -188,7 +194,7 @@ makes_both is1 is2 es1 es2 h1 h2 h le1 le2 makes1 makes2 code low j sp m room pl
     record {
       after = b.after;
       runs = subst (λ k. Runs low k m (record m { machine = b.after; trace = m.trace ++ (es1 ++ es2) })) len
-        (subst (λ t. Runs low (length is1 + length is2) m (record m { machine = b.after; trace = t })) events
+          (subst (λ t. Runs low (length is1 + length is2) m (record m { machine = b.after; trace = t })) events
           (Runs-append low (length is1) (length is2) m ma _ a.runs b.runs));
       placed = subst (λ q. Placed code q sp b.after) place b.placed;
       keeps = Keeps-then low sp m.machine a.after b.after a.keeps b.keeps;
@@ -215,24 +221,28 @@ one_more c cs is1 is2 call s rest (inr (es, t, m)) = from (rest t)
   where
     from : Agrees (run_all call cs t) t is2 (commands_bulk cs) → Agrees (run_all call (c ∷ cs) s) s (is1 ++ is2) (commands_bulk (c ∷ cs))
     from (inl (u, ends)) = inl (u, ap (λ r. then_do r (run_all call cs)) m.goes ∙ ends)
-    from (inr (fs, u, n)) = inr (es ++ fs, u, record {
+    from (inr (fs, u, n)) = inr (
+      es ++ fs,
+      u,
+      record {
         goes = ap (λ r. then_do r (run_all call cs)) m.goes ∙ n.goes;
         trace = n.trace ∙ ap (λ x. x ++ fs) m.trace ∙ append_assoc s.trace es fs;
         memory = n.memory ∙ m.memory;
         makes =
-          let size = commands_bulk-cons c cs in
-          makes_both is1 is2 es fs (command_bulk c) (commands_bulk cs) (commands_bulk (c ∷ cs)) (omega arith) (omega arith) m.makes n.makes;
-      })
+            let size = commands_bulk-cons c cs in
+            makes_both is1 is2 es fs (command_bulk c) (commands_bulk cs) (commands_bulk (c ∷ cs)) (omega arith) (omega arith) m.makes n.makes;
+      },
+    )
 
 pub commands_agree : Table → (cs : List Cmd) (is : List Ins) → commands_code cs ≡ Some is → CommandsAgree cs is
 commands_agree table [] is code = λ call s.
     let none : [] ≡ is = cc in
     subst (λ k. Agrees (run_all call [] s) s k 0) none
-      (inr ([], s, record { goes = refl; trace = sym (append-nil s.trace); memory = refl; makes = makes_none 0 }))
+    (inr ([], s, record { goes = refl; trace = sym (append-nil s.trace); memory = refl; makes = makes_none 0 }))
 commands_agree table (c ∷ cs) is code = λ call s.
     let p = in_turn_parts (command_code c) (commands_code cs) is code in
     subst (λ k. Agrees (run_all call (c ∷ cs) s) s k (commands_bulk (c ∷ cs))) p.4
-      (one_more c cs p.0 p.1 call s (commands_agree table cs p.1 p.3 call) ((command_agrees table c p.0 p.2).1 call s))
+    (one_more c cs p.0 p.1 call s (commands_agree table cs p.1 p.3 call) ((command_agrees table c p.0 p.2).1 call s))
 
 -- commands with code have at most five instructions for each unit of bulk
 pub commands_short : Table → (cs : List Cmd) (is : List Ins) → commands_code cs ≡ Some is → length is ≤ 5 * commands_bulk cs

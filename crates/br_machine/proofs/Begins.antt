@@ -46,14 +46,14 @@ length-start_ram code m j few left =
 -- the machine has the code that it starts with
 pub HasCode-start : (code : List ℕ) (offset : ℕ) (args : List ℕ) (m : Memory) (j : Leftover) → HasCode code (start code offset args m j)
 HasCode-start code offset args m j = record {
-    count = refl;
-    bytes = λ i h.
+  count = refl;
+  bytes = λ i h.
       let inside : i < length (code_bytes code) = omega (arith, length-code_bytes code) in
       let front : i < length (code_bytes code ++ zeros code) = omega (arith, length-append (code_bytes code) (zeros code)) in
       ap (λ ram. slice_index ram i) (parts code m j)
       ∙ get_or_append_left (code_bytes code ++ zeros code) (overlaid m data_base j.bytes) 0 i front
       ∙ get_or_append_left (code_bytes code) (zeros code) 0 i inside;
-  }
+}
 
 -- a byte of the data region is the memory's where it has the address
 pub byte_of-start : (code : List ℕ) (offset : ℕ) (args : List ℕ) (m : Memory) (j : Leftover) (a : ℕ) → length code ≤ 262144 → IsLeftover j → data_base ≤ a → a < stack_base
@@ -64,11 +64,11 @@ byte_of-start code offset args m j a few left from to =
     let place : a - code_base ≡ length (code_bytes code ++ zeros code) + i = omega (arith, len) in
     let at : data_base + i ≡ a = omega arith in
     let is : byte_of (start code offset args m j) a ≡ unwrap_or (map.get m a) (slice_index j.bytes i) =
-        ap (λ ram. slice_index ram (a - code_base)) (parts code m j)
-        ∙ ap (slice_index ((code_bytes code ++ zeros code) ++ overlaid m data_base j.bytes)) place
-        ∙ get_or-append-add (code_bytes code ++ zeros code) (overlaid m data_base j.bytes) i 0
-        ∙ index-overlaid j.bytes m data_base i (omega (arith, left.bytes))
-        ∙ ap (λ q. unwrap_or (map.get m q) (slice_index j.bytes i)) at in
+    ap (λ ram. slice_index ram (a - code_base)) (parts code m j)
+    ∙ ap (slice_index ((code_bytes code ++ zeros code) ++ overlaid m data_base j.bytes)) place
+    ∙ get_or-append-add (code_bytes code ++ zeros code) (overlaid m data_base j.bytes) i 0
+    ∙ index-overlaid j.bytes m data_base i (omega (arith, left.bytes))
+    ∙ ap (λ q. unwrap_or (map.get m q) (slice_index j.bytes i)) at in
     again (map.get m a) (byte_of (start code offset args m j) a) (slice_index j.bytes i) is
   where
     again : (o : Option ℕ) (x y : ℕ) → x ≡ unwrap_or o y → x ≡ unwrap_or o x
