@@ -3,8 +3,15 @@
 //! integer instruction set and M extension.
 #![tactic(auto)]
 
+mod decoding;
+mod encoding;
+mod format;
+mod immediate;
 mod instruction;
 mod laws;
+mod range;
 
+pub use decoding::decode;
+pub use encoding::{encode, fits};
 pub use instruction::{BranchOp, ImmOp, Ins, LoadOp, RegOp, ShiftOp, StoreOp, UpperOp};
 pub use laws::instructions_and_words_match;
