@@ -1,9 +1,7 @@
 // The word that an instruction is, and the instructions that are words.
 
-ghost use Rattle.std.specs.Prelude.{◌≡◌, ℕ, ◌^◌, ◌<◌, ◌↔◌, IsTrue, Some};
-ghost use Rattle.br_words.specs.Words.{IsWord};
+ghost use Rattle.std.specs.Prelude.{◌≡◌, ◌↔◌, IsTrue};
 ghost use Rattle.br_rv32im.specs.Encoding.{Fits, word_of};
-ghost use Rattle.br_rv32im.specs.Row.{row_of};
 
 use crate::format::{
     branch_word, immediate_word, jump_word, register_word, store_word, upper_word,
@@ -48,8 +46,8 @@ macro_rules! encode_table {
 }
 
 /// The word that an instruction is (RISC-V unprivileged manual, "RV32/64G Instruction Set
-/// Listings"), for an instruction that `fits`. It is the only word that `decode` makes this
-/// instruction of.
+/// Listings"), for an instruction that `fits`. By the law `instructions_and_words_match`, `decode`
+/// gives `i` for this word and for no other.
 #[tactic(auto, unfolding(crate::specs::Encoding::word_of))]
 pub fn encode(i: Ins) -> u32
     requires { Fits i }
