@@ -9,9 +9,13 @@ mod format;
 mod immediate;
 mod instruction;
 mod laws;
+mod mnemonic;
+mod operand;
 mod range;
+mod text;
 
 pub use decoding::decode;
 pub use encoding::{encode, fits};
 pub use instruction::{BranchOp, ImmOp, Ins, LoadOp, RegOp, ShiftOp, StoreOp, UpperOp};
 pub use laws::instructions_and_words_match;
+pub use text::listing;
