@@ -1,6 +1,7 @@
 // The instruction that a word is.
 
-ghost use Rattle.std.specs.Prelude.{◌≡◌};
+ghost use Rattle.std.specs.Prelude.{◌≡◌, IfSome};
+ghost use Rattle.br_rv32im.specs.Encoding.{Fits};
 ghost use Rattle.br_rv32im.specs.Row.{row_of};
 
 use crate::immediate::{b_immediate, i_immediate, j_immediate, s_immediate};
@@ -76,7 +77,8 @@ macro_rules! decode_table {
 /// manual, "RV32/64G Instruction Set Listings"): FENCE and EBREAK among others.
 #[tactic(auto, unfolding(crate::specs::Row::row_of))]
 pub fn decode(w: u32) -> Option<Ins>
-    ensures { result ≡ row_of w }
+    ensures row { result ≡ row_of w }
+    ensures in_range { IfSome result Fits }
 {
     decode_table! { w;
         0b0110111 => upper(Lui),
