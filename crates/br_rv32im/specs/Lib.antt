@@ -1,3 +1,4 @@
 pub mod Codes
 pub mod Encoding
+pub mod Listing
 pub mod Row

@@ -3,8 +3,22 @@
 //! integer instruction set and M extension.
 #![tactic(auto)]
 
+mod decoding;
+mod encoding;
+mod format;
+mod immediate;
 mod instruction;
 mod laws;
+mod mnemonic;
+mod operand;
+mod range;
+mod text;
 
+pub use decoding::decode;
+pub use encoding::{encode, fits};
 pub use instruction::{BranchOp, ImmOp, Ins, LoadOp, RegOp, ShiftOp, StoreOp, UpperOp};
 pub use laws::instructions_and_words_match;
+pub use text::listing;
+
+#[cfg(test)]
+mod tests;
