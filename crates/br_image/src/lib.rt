@@ -4,6 +4,7 @@
 mod images;
 mod laws;
 mod lines;
+mod parsing;
 mod printing;
 
 pub use images::{Entry, Image};
