@@ -29,7 +29,7 @@ four_bytes a b c d =
     let ba : a % 256 < 256 = omega arith in let bb : b % 256 < 256 = omega arith in
     let bc : c % 256 < 256 = omega arith in let bd : d % 256 < 256 = omega arith in
     let all : All P (a % 256 ∷ b % 256 ∷ c % 256 ∷ d % 256 ∷ []) =
-        All-cons P (a % 256) (b % 256 ∷ c % 256 ∷ d % 256 ∷ []) ba (All-cons P (b % 256) (c % 256 ∷ d % 256 ∷ []) bb (All-cons P (c % 256) (d % 256 ∷ []) bc (All-cons P (d % 256) [] bd (All-nil P)))) in
+    All-cons P (a % 256) (b % 256 ∷ c % 256 ∷ d % 256 ∷ []) ba (All-cons P (b % 256) (c % 256 ∷ d % 256 ∷ []) bb (All-cons P (c % 256) (d % 256 ∷ []) bc (All-cons P (d % 256) [] bd (All-nil P)))) in
     λ i. elim (cases_lt i 4) [
       | inl low ↦ all i 0 low
       | inr high ↦ let past : get_or (a % 256 ∷ b % 256 ∷ c % 256 ∷ d % 256 ∷ []) i 0 ≡ 0 = get_or_past (a % 256 ∷ b % 256 ∷ c % 256 ∷ d % 256 ∷ []) i 0 high in rw past (omega arith)
@@ -66,8 +66,8 @@ DigitsRead-more ds i v within low high h =
     let P : List ℕ → Type 0 = λ t. AllDigits 10 t in
     record {
       value = ap (λ t. digits_value_after 10 (v * 10 + (d - 48)) t) next
-        ∙ (ap (λ k. digits_value_after 10 (v * 10 + k) (drop (suc i) ds)) (sym digit)
-        ∙ (sym (ap (λ t. digits_value_after 10 v t) cut) ∙ h.value));
+          ∙ (ap (λ k. digits_value_after 10 (v * 10 + k) (drop (suc i) ds)) (sym digit)
+          ∙ (sym (ap (λ t. digits_value_after 10 v t) cut) ∙ h.value));
       front = λ all. subst P (sym next) (subst P cut (h.front all)).1;
       back = λ rest. h.back (subst P (sym cut) (small, subst P next rest));
     }

@@ -163,12 +163,7 @@ pub(crate) fn parse_number(digits: &[u8], most: u32) -> Option<u32>
     value_of(digits, most)
 }
 
-#[tactic(
-    auto,
-    using(
-        crate::proofs::Decoding::number_steps
-    )
-)]
+#[tactic(auto, using(crate::proofs::Decoding::number_steps))]
 fn value_of(digits: &[u8], most: u32) -> Option<u32>
     ensures found { IfSome result (λ n. (n ≤ most) × AllDigits 10 digits.now × (digits_value 10 digits.now ≡ n)) }
     ensures none { IfNone result (AllDigits 10 digits.now → most < digits_value 10 digits.now) }
