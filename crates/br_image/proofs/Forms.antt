@@ -9,6 +9,7 @@ use Rattle.br_image.specs.declared.images.Entry.{Entry}
 use Rattle.br_image.specs.declared.lines.Line.{Line}
 use Rattle.br_image.specs.declared.lines.Line.TheVariants.{Header, Function, Count, Word, End}
 use Rattle.br_image.specs.Text.{entry_text, code_text, word_text, hex_digit}
+use Rattle.br_image.specs.Forms.{numbers_text}
 use Rattle.br_image.specs.Lines.{IsLine, IsEntryLine, line_text}
 use Rattle.br_image.proofs.Pieces.{Free, Free-append, Free-from_test, Free-decimal, Free-name, cut}
 
@@ -24,7 +25,7 @@ hex_digit-injective c d h k e = grind (arith, nat_tests)
 Free-digit : (c d : ℕ) → c < 48 → hex_digit d ≢ c
 Free-digit c d low = let above = hex_digit-above d in omega arith
 
-Free-word : (c w : ℕ) → c < 48 → Free c (word_text w)
+pub Free-word : (c w : ℕ) → c < 48 → Free c (word_text w)
 Free-word c w low = (
   Free-digit c (w / 268435456 % 16) low,
   (
@@ -39,10 +40,8 @@ Free-word c w low = (
   ),
 )
 
--- the fields of an entry's line behind its first word
-abbrev pub fields : List ℕ → ℕ → ℕ → ℕ → ℕ → List ℕ
-fields name args results offset need =
-    name ++ 32 ∷ (decimal args ++ 32 ∷ (decimal results ++ 32 ∷ (decimal offset ++ 32 ∷ decimal need)))
+abbrev fields : List ℕ → ℕ → ℕ → ℕ → ℕ → List ℕ
+fields name args results offset need = name ++ 32 ∷ numbers_text args results offset need
 
 pub entry_text-fields : (e : Entry) → entry_text e ≡ codes "entry " ++ fields e.name e.args e.results e.offset e.need
 entry_text-fields e = simp append_assoc
@@ -118,7 +117,7 @@ second w c a xs e =
     omega arith
 
 -- two texts that differ at a place
-apart : (k : ℕ) (xs ys : List ℕ) → (slice_index xs k == slice_index ys k) ≡ false → xs ≡ ys → ⊥
+pub apart : (k : ℕ) (xs ys : List ℕ) → (slice_index xs k == slice_index ys k) ≡ false → xs ≡ ys → ⊥
 apart k xs ys t e =
     let same : slice_index xs k ≡ slice_index ys k = ap (λ s. slice_index s k) e in
     grind (arith, nat_tests)

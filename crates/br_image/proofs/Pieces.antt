@@ -8,6 +8,8 @@ use Rattle.std.proofs.lemmas.Bool.{and_parts}
 use Rattle.std.proofs.lemmas.Bool.Decides.{nat_tests}
 use Rattle.std.proofs.lemmas.Fmt.{decimal_is_IsNumeral}
 use Rattle.std.proofs.lemmas.Str.Parse.{digit_from_value}
+use Rattle.std.proofs.lemmas.List.Elements.{All-cons, All-head, All-nil, All-tail}
+use Rattle.br_image.specs.Forms.{Lacks}
 use Rattle.br_base.specs.Name.{IsName, is_name, starts_name, continues_name}
 
 -- no element is c
@@ -75,3 +77,11 @@ Free-name c [] low h = tt
 Free-name c (b ∷ bs) low h =
     let parts = and_parts (starts_name b) (list_all continues_name bs) h in
     (starts_above c b low parts.0, Free-continues c bs low parts.1)
+
+pub Free-lacks : (c : ℕ) (xs : List ℕ) → Lacks c xs → Free c xs
+Free-lacks c [] h = tt
+Free-lacks c (x ∷ xs) h = (All-head (λ b. b ≢ c) x xs h, Free-lacks c xs (All-tail (λ b. b ≢ c) x xs h))
+
+pub Lacks-free : (c : ℕ) (xs : List ℕ) → Free c xs → Lacks c xs
+Lacks-free c [] h = All-nil (λ b. b ≢ c)
+Lacks-free c (x ∷ xs) h = All-cons (λ b. b ≢ c) x xs h.0 (Lacks-free c xs h.1)

@@ -99,7 +99,7 @@ lines_of-whole es fs v w more e =
     let ends = words_whole v w more parts.1 in
     (parts.0, ends.0, ends.1)
 
-text_of-append : (ls ms : List Line) → text_of (ls ++ ms) ≡ text_of ls ++ text_of ms
+pub text_of-append : (ls ms : List Line) → text_of (ls ++ ms) ≡ text_of ls ++ text_of ms
 text_of-append [] ms = refl
 text_of-append (l ∷ ls) ms = ap (λ t. line (line_text l) ++ t) (text_of-append ls ms) ∙ sym (append_assoc (line (line_text l)) (text_of ls) (text_of ms))
 

@@ -1,4 +1,7 @@
+pub mod Faults
+pub mod Forms
 pub mod Limits
 pub mod Lines
 pub mod Printed
+pub mod Reading
 pub mod Text

@@ -12,9 +12,13 @@ pub record EntryInLimits (words : ℕ) (e : Entry) : Type 0 where
   pub offset : e.offset < 4 * words
   pub need : e.need ≤ 1048576
 
+-- no two entries have one name
+abbrev pub HaveDifferentNames : List Entry → Type 0
+HaveDifferentNames entries = AllPairs (λ a b. a.name ≢ b.name) entries
+
 -- the limits of an image's parts
 pub record InLimits (entries : List Entry) (code : List ℕ) : Type 0 where
   pub count : length code ≤ 262144
   pub words : All (λ w. w < 2 ^ 32) code
   pub each : All (EntryInLimits (length code)) entries
-  pub names : AllPairs (λ a b. a.name ≢ b.name) entries
+  pub names : HaveDifferentNames entries

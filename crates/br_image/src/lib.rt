@@ -1,11 +1,16 @@
 //! Images of compiled programs, and their text.
 #![tactic(auto)]
 
+mod faults;
 mod images;
 mod laws;
 mod lines;
+mod parsing;
 mod printing;
+mod reading;
 
+pub use faults::ImageFault;
 pub use images::{Entry, Image};
 pub use laws::two_images_have_two_texts;
 pub use printing::print;
+pub use reading::read;

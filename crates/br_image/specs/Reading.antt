@@ -1,0 +1,49 @@
+-- How far the reading of a text has come.
+use Rattle.std.specs.Prelude.{ℕ, ◌≡◌, ◌≢◌, ◌+◌, ◌<◌, ◌≤◌, ◌^◌, List, [], ◌∷◌, ◌++◌, All, length, map, drop, take, slice_get, Some}
+use Rattle.br_image.specs.Faults.{IsOffset}
+use Rattle.br_image.specs.declared.images.Entry.{Entry}
+use Rattle.br_image.specs.declared.lines.Line.{Line}
+use Rattle.br_image.specs.declared.lines.Line.TheVariants.{Header, Function, Count, Word}
+use Rattle.br_image.specs.declared.faults.ImageFault.{ImageFault}
+use Rattle.br_image.specs.declared.faults.ImageFault.TheVariants.{BadLine, BadOrder, BadOffset, Truncated}
+use Rattle.br_image.specs.Limits.{HaveDifferentNames}
+use Rattle.br_image.specs.Lines.{IsLine, IsEntryLine, line_text, text_of}
+use Rattle.br_image.specs.Forms.{Lacks}
+
+-- the first line of the rest, which is line n, is no line
+abbrev pub IsLineFault : ℕ → List ℕ → ImageFault → Type 0
+IsLineFault n rest (BadLine m) = (m ≡ n) × (bytes : List ℕ) × (more : List ℕ) × (rest ≡ bytes ++ 10 ∷ more) × Lacks 10 bytes × ((l : Line) → IsLine l → bytes ≢ line_text l)
+IsLineFault n rest (BadOrder m) = ⊥
+IsLineFault n rest (BadOffset m) = ⊥
+IsLineFault n rest (Truncated m) = (m ≡ n) × Lacks 10 rest
+
+-- the first line and lines of these entries
+abbrev pub entries_read : List Entry → List Line
+entries_read entries = Header ∷ map Function entries
+
+-- the bytes before a place are the first line and lines of these entries
+pub record EntriesRead (text : List ℕ) (entries : List Entry) (at : ℕ) : Type 0 where
+  pub within : at ≤ length text
+  pub many : length entries < at
+  pub spelled : text ≡ text_of (entries_read entries) ++ drop at text
+  pub forms : All IsEntryLine entries
+  pub names : HaveDifferentNames entries
+
+-- those lines, the number of words and lines of these words
+abbrev pub words_read : List Entry → ℕ → List ℕ → List Line
+words_read entries count code = Header ∷ (map Function entries ++ Count count ∷ map Word code)
+
+-- the bytes before a place are those lines
+pub record WordsRead (text : List ℕ) (entries : List Entry) (count : ℕ) (code : List ℕ) (at : ℕ) : Type 0 where
+  pub within : at ≤ length text
+  pub many : length entries + length code < at
+  pub spelled : text ≡ text_of (words_read entries count code) ++ drop at text
+  pub forms : All IsEntryLine entries
+  pub names : HaveDifferentNames entries
+  pub counted : count ≤ 262144
+  pub words : All (λ w. w < 2 ^ 32) code
+  pub few : length code ≤ count
+
+-- the first entry with an offset that is not in the code
+abbrev pub IsFirstBad : ℕ → List Entry → ℕ → Type 0
+IsFirstBad words entries k = (entry : Entry) × (slice_get entries k ≡ Some entry) × ¬ IsOffset words entry.offset × All (λ e. IsOffset words e.offset) (take k entries)
