@@ -1,0 +1,6 @@
+pub mod Fault
+pub mod Forest
+pub mod Layout
+pub mod Number
+pub mod Progress
+pub mod Token
