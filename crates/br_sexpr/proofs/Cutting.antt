@@ -11,7 +11,7 @@ use Rattle.br_sexpr.specs.declared.piece.Kind.{Kind}
 use Rattle.br_sexpr.specs.Progress.{Within, outside, in_comment, in_run, goes_on, begun, within, pieces, tokens_from, token_as}
 
 -- what goes on behind a piece that has begun is no piece of its own
-pieces-skip : (w : Within) (bs : List ℕ) → pieces w bs ≡ pieces outside (drop (prefix_len (goes_on w) bs) bs)
+pub pieces-skip : (w : Within) (bs : List ℕ) → pieces w bs ≡ pieces outside (drop (prefix_len (goes_on w) bs) bs)
 pieces-skip w [] = refl
 pieces-skip w (b ∷ bs) =
     let n : ℕ = prefix_len (goes_on w) bs in
@@ -30,7 +30,7 @@ tokens-front place b bs = ap (λ ps. tokens_at place (begun b bs) ++ tokens_of (
 tokens-cut : (place b : ℕ) (bs : List ℕ) (p : Piece) (w : Within) (len n : ℕ) → begun b bs ≡ p → within b ≡ w → length (spelling p) ≡ len → prefix_len (goes_on w) bs ≡ n → tokens_from place (b ∷ bs) ≡ tokens_at place p ++ tokens_from (place + len) (drop n bs)
 tokens-cut place b bs p w len n piece goes long behind = tokens-front place b bs ∙ rw (piece, goes, long, behind) refl
 
-none-behind : (bs : List ℕ) → prefix_len (goes_on outside) bs ≡ 0
+pub none-behind : (bs : List ℕ) → prefix_len (goes_on outside) bs ≡ 0
 none-behind [] = refl
 none-behind (b ∷ bs) = refl
 

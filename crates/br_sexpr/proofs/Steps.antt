@@ -8,8 +8,8 @@ use Rattle.br_sexpr.specs.declared.reading.OpenList.{OpenList}
 use Rattle.br_sexpr.specs.declared.reading.Reader.{Reader}
 use Rattle.br_sexpr.specs.Token.{Token, opens, closes, kept, token_of_run}
 use Rattle.br_sexpr.specs.Forest.{tree_tokens, forest_tokens, tree_height, forest_height}
-use Rattle.br_sexpr.specs.Fault.{fault_within, but_last, closes_last}
-use Rattle.br_sexpr.specs.Progress.{seen_in, seen, places, FitsIn, Fits, Took, IsWord}
+use Rattle.br_sexpr.specs.Fault.{but_last, wrong_close}
+use Rattle.br_sexpr.specs.Progress.{or_else, fault_within, seen_in, seen, places, FitsIn, Fits, Took, IsWord}
 use Rattle.br_sexpr.specs.Number.{number_of}
 use Rattle.br_base.specs.Name.{is_name}
 use Rattle.br_sexpr.specs.declared.tree.TextFault.TheVariants.{BadNumber}
@@ -45,15 +45,15 @@ but_last-push [] x = refl
 but_last-push (y ∷ []) x = refl
 but_last-push (y ∷ z ∷ xs) x = ap (λ ys. y ∷ ys) (but_last-push (z ∷ xs) x)
 
-closes_last-push : (xs : List ℕ) (x at : ℕ) (next : Option TextFault) → closes_last (xs ++ x ∷ []) at next ≡ next
-closes_last-push [] x at next = refl
-closes_last-push (y ∷ xs) x at next = refl
+wrong_close-push : (xs : List ℕ) (x at : ℕ) → wrong_close (xs ++ x ∷ []) at ≡ None
+wrong_close-push [] x at = refl
+wrong_close-push (y ∷ xs) x at = refl
 
 fault-open : (xs : List ℕ) (at : ℕ) (rest : List Token) → length xs < 256 → fault_within xs (opens at ∷ rest) ≡ fault_within (xs ++ at ∷ []) rest
 fault-open xs at rest room = grind (arith)
 
 fault-close : (xs : List ℕ) (x at : ℕ) (rest : List Token) → fault_within (xs ++ x ∷ []) (closes at ∷ rest) ≡ fault_within xs rest
-fault-close xs x at rest = closes_last-push xs x at _ ∙ ap (λ ys. fault_within ys rest) (but_last-push xs x)
+fault-close xs x at rest = ap (λ o. or_else o (fault_within (but_last (xs ++ x ∷ [])) rest)) (wrong_close-push xs x at) ∙ ap (λ ys. fault_within ys rest) (but_last-push xs x)
 
 pub took-open : (old new : Reader) (at : ℕ) → new.open ≡ old.open ++ (record { at = at; before = old.items }) ∷ [] → new.items ≡ [] → length old.open < 256 → Took old new (opens at ∷ [])
 took-open old new at pushed none room = record {

@@ -8,9 +8,9 @@ use Rattle.br_sexpr.specs.declared.tree.TextFault.{TextFault}
 use Rattle.br_sexpr.specs.declared.piece.Kind.{Kind}
 use Rattle.br_sexpr.specs.declared.reading.Reader.{Reader}
 use Rattle.br_sexpr.specs.Token.{Token, kept}
-use Rattle.br_sexpr.specs.Fault.{fault_within, unclosed}
+use Rattle.br_sexpr.specs.Fault.{unclosed}
 use Rattle.br_sexpr.specs.Forest.{forest_tokens, forest_height}
-use Rattle.br_sexpr.specs.Progress.{tokens_from, token_as, seen_in, seen, places, FitsIn, Fits, Took, Refuses, Ends, IsForest, Answers}
+use Rattle.br_sexpr.specs.Progress.{fault_within, tokens_from, token_as, seen_in, seen, places, FitsIn, Fits, Took, Refuses, Ends, IsForest, Answers}
 
 -- what is known of a reader that has come to an offset of a text
 pub record SoFar (r : Reader) (place : ℕ) (text : List ℕ) : Type 0 where

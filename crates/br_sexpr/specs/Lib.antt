@@ -3,4 +3,5 @@ pub mod Forest
 pub mod Layout
 pub mod Number
 pub mod Progress
+pub mod Reads
 pub mod Token

@@ -13,7 +13,7 @@ use Rattle.br_sexpr.specs.declared.reading.OpenList.{OpenList}
 use Rattle.br_sexpr.specs.declared.reading.Reader.{Reader}
 use Rattle.br_sexpr.specs.Layout.{Piece, blank, comment, opening, closing, run, stray, is_blank, stays_in_line}
 use Rattle.br_sexpr.specs.Token.{Token, opens, closes, names, numbers, misspells, strays, token_of_run, tokens_of, kept}
-use Rattle.br_sexpr.specs.Fault.{fault_within, unclosed}
+use Rattle.br_sexpr.specs.Fault.{but_last, open_behind, wrong_where, unclosed}
 use Rattle.br_sexpr.specs.Forest.{tree_tokens, forest_tokens, tree_height, forest_height}
 
 -- the piece that the byte before has begun, if it may go on
@@ -79,6 +79,16 @@ FitsIn n (o ∷ os) items = (n + forest_height o.before ≤ 256) × FitsIn (n + 
 
 abbrev pub Fits : Reader → Type 0
 Fits r = FitsIn 0 r.open r.items
+
+-- the fault that something wrong is, or else what follows
+abbrev pub or_else : Option TextFault → Option TextFault → Option TextFault
+or_else (Some f) next = Some f
+or_else None next = next
+
+-- the fault of the tokens that stand where the `(` at these offsets are open
+abbrev pub fault_within : List ℕ → List Token → Option TextFault
+fault_within xs [] = unclosed xs
+fault_within xs (t ∷ ts) = or_else (wrong_where xs t) (fault_within (open_behind xs (t ∷ [])) ts)
 
 -- from old to new the reader took these tokens
 pub record Took (old new : Reader) (ts : List Token) : Type 0 where

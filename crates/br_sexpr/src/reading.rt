@@ -1,6 +1,7 @@
 // Reading: from a text to its trees.
 
 ghost use Rattle.std.specs.Prelude.{◌≡◌, ℕ, ◌≤◌, List, [], ◌∷◌, length, IfOk, IfErr, OnOk, MatchOption};
+ghost use Rattle.br_sexpr.specs.Reads.{Reads, HasFault, IfFault};
 ghost use Rattle.br_sexpr.specs.Token.{token_of_run, opens, closes};
 ghost use Rattle.br_sexpr.specs.Progress.{tokens_from, token_as, Answers, Refuses, IsWord};
 
@@ -33,6 +34,8 @@ struct Reader {
 /// is no other.
 pub fn read(alloc: Global, bytes: &[u8]) -> Result<Items<Tree>, OrMemory<TextFault>>
     requires { length bytes.now ≤ 1048576 }
+    ensures trees { IfOk result (λ trees. Reads bytes.now trees) }
+    ensures fault { IfErr result (λ e. IfFault e (λ f. HasFault bytes.now f)) }
 {
     trees_of(alloc, bytes)
 }
