@@ -3,6 +3,8 @@ pub mod Digits
 pub mod Faults
 pub mod ForestLemmas
 pub mod Layouts
+pub mod OneAnswer
 pub mod Results
 pub mod Steps
+pub mod Trees
 pub mod Whole

@@ -15,28 +15,28 @@ use Rattle.br_base.specs.Name.{is_name}
 use Rattle.br_sexpr.specs.declared.tree.TextFault.TheVariants.{BadNumber}
 use Rattle.br_sexpr.proofs.ForestLemmas.{tokens-push, tokens-list, tokens-name, tokens-number, height-push, height-list, height-name, height-number}
 
-seen-open : (os : List OpenList) (o : OpenList) (items : List Tree) → seen_in (os ++ o ∷ []) items ≡ seen_in os o.before ++ (opens o.at ∷ forest_tokens items)
+pub seen-open : (os : List OpenList) (o : OpenList) (items : List Tree) → seen_in (os ++ o ∷ []) items ≡ seen_in os o.before ++ (opens o.at ∷ forest_tokens items)
 seen-open [] o items = refl
 seen-open (p ∷ os) o items = ap (λ ts. forest_tokens p.before ++ opens p.at ∷ ts) (seen-open os o items) ∙ sym (append_assoc (forest_tokens p.before) (opens p.at ∷ seen_in os o.before) (opens o.at ∷ forest_tokens items))
 
-seen-push : (os : List OpenList) (items : List Tree) (t : Tree) → seen_in os (items ++ t ∷ []) ≡ seen_in os items ++ tree_tokens t
+pub seen-push : (os : List OpenList) (items : List Tree) (t : Tree) → seen_in os (items ++ t ∷ []) ≡ seen_in os items ++ tree_tokens t
 seen-push [] items t = tokens-push items t
 seen-push (p ∷ os) items t = ap (λ ts. forest_tokens p.before ++ opens p.at ∷ ts) (seen-push os items t) ∙ sym (append_assoc (forest_tokens p.before) (opens p.at ∷ seen_in os items) (tree_tokens t))
 
-seen-close : (os : List OpenList) (o : OpenList) (items : List Tree) → seen_in os (o.before ++ view.List o.at items ∷ []) ≡ seen_in (os ++ o ∷ []) items ++ closes 0 ∷ []
+pub seen-close : (os : List OpenList) (o : OpenList) (items : List Tree) → seen_in os (o.before ++ view.List o.at items ∷ []) ≡ seen_in (os ++ o ∷ []) items ++ closes 0 ∷ []
 seen-close os o items =
     seen-push os o.before (view.List o.at items) ∙ ap (λ ts. seen_in os o.before ++ ts) (tokens-list o.at items)
     ∙ sym (append_assoc (seen_in os o.before) (opens o.at ∷ forest_tokens items) (closes 0 ∷ [])) ∙ ap (λ ts. ts ++ closes 0 ∷ []) (sym (seen-open os o items))
 
-FitsIn-open : (n : ℕ) (os : List OpenList) (o : OpenList) → FitsIn n os o.before → n + length os < 256 → FitsIn n (os ++ o ∷ []) []
+pub FitsIn-open : (n : ℕ) (os : List OpenList) (o : OpenList) → FitsIn n os o.before → n + length os < 256 → FitsIn n (os ++ o ∷ []) []
 FitsIn-open n [] o fits room = (fits, omega arith)
 FitsIn-open n (p ∷ os) o fits room = (fits.0, FitsIn-open (n + 1) os o fits.1 (omega arith))
 
-FitsIn-close : (n : ℕ) (os : List OpenList) (o : OpenList) (items : List Tree) → FitsIn n (os ++ o ∷ []) items → FitsIn n os (o.before ++ view.List o.at items ∷ [])
+pub FitsIn-close : (n : ℕ) (os : List OpenList) (o : OpenList) (items : List Tree) → FitsIn n (os ++ o ∷ []) items → FitsIn n os (o.before ++ view.List o.at items ∷ [])
 FitsIn-close n [] o items fits = omega (arith, fits.0, fits.1, height-push o.before (view.List o.at items), height-list o.at items)
 FitsIn-close n (p ∷ os) o items fits = (fits.0, FitsIn-close (n + 1) os o items fits.1)
 
-FitsIn-push : (n : ℕ) (os : List OpenList) (items : List Tree) (t : Tree) → tree_height t ≡ 0 → FitsIn n os items → FitsIn n os (items ++ t ∷ [])
+pub FitsIn-push : (n : ℕ) (os : List OpenList) (items : List Tree) (t : Tree) → tree_height t ≡ 0 → FitsIn n os items → FitsIn n os (items ++ t ∷ [])
 FitsIn-push n [] items t flat fits = omega (arith, fits, height-push items t)
 FitsIn-push n (p ∷ os) items t flat fits = (fits.0, FitsIn-push (n + 1) os items t flat fits.1)
 
@@ -49,10 +49,10 @@ wrong_close-push : (xs : List ℕ) (x at : ℕ) → wrong_close (xs ++ x ∷ [])
 wrong_close-push [] x at = refl
 wrong_close-push (y ∷ xs) x at = refl
 
-fault-open : (xs : List ℕ) (at : ℕ) (rest : List Token) → length xs < 256 → fault_within xs (opens at ∷ rest) ≡ fault_within (xs ++ at ∷ []) rest
+pub fault-open : (xs : List ℕ) (at : ℕ) (rest : List Token) → length xs < 256 → fault_within xs (opens at ∷ rest) ≡ fault_within (xs ++ at ∷ []) rest
 fault-open xs at rest room = grind (arith)
 
-fault-close : (xs : List ℕ) (x at : ℕ) (rest : List Token) → fault_within (xs ++ x ∷ []) (closes at ∷ rest) ≡ fault_within xs rest
+pub fault-close : (xs : List ℕ) (x at : ℕ) (rest : List Token) → fault_within (xs ++ x ∷ []) (closes at ∷ rest) ≡ fault_within xs rest
 fault-close xs x at rest = ap (λ o. or_else o (fault_within (but_last (xs ++ x ∷ [])) rest)) (wrong_close-push xs x at) ∙ ap (λ ys. fault_within ys rest) (but_last-push xs x)
 
 pub took-open : (old new : Reader) (at : ℕ) → new.open ≡ old.open ++ (record { at = at; before = old.items }) ∷ [] → new.items ≡ [] → length old.open < 256 → Took old new (opens at ∷ [])
