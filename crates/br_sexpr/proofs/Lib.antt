@@ -1,4 +1,6 @@
+pub mod Again
 pub mod Cutting
+pub mod Decimals
 pub mod Digits
 pub mod Faults
 pub mod ForestLemmas
