@@ -1,10 +1,14 @@
 //! Source texts as trees of names, numbers and lists, and the one text that trees are printed as.
 #![tactic(auto)]
 
+mod laws;
 mod number;
 mod piece;
+mod printing;
 mod reading;
 mod tree;
 
+pub use laws::one_answer;
+pub use printing::print;
 pub use reading::read;
 pub use tree::{TextFault, Tree};

@@ -1,6 +1,9 @@
 // Reading: from a text to its trees.
 
-ghost use Rattle.std.specs.Prelude.{◌≤◌, length};
+ghost use Rattle.std.specs.Prelude.{◌≡◌, ℕ, ◌≤◌, List, [], ◌∷◌, length, IfOk, IfErr, OnOk, MatchOption};
+ghost use Rattle.br_sexpr.specs.Reads.{Reads, HasFault, IfFault};
+ghost use Rattle.br_sexpr.specs.Token.{token_of_run, opens, closes};
+ghost use Rattle.br_sexpr.specs.Progress.{tokens_from, token_as, Answers, Refuses, IsWord};
 
 use crate::number::number;
 use crate::piece::{Kind, first_piece};
@@ -31,6 +34,15 @@ struct Reader {
 /// is no other.
 pub fn read(alloc: Global, bytes: &[u8]) -> Result<Items<Tree>, OrMemory<TextFault>>
     requires { length bytes.now ≤ 1048576 }
+    ensures trees { IfOk result (λ trees. Reads bytes.now trees) }
+    ensures fault { IfErr result (λ e. IfFault e (λ f. HasFault bytes.now f)) }
+{
+    trees_of(alloc, bytes)
+}
+
+fn trees_of(alloc: Global, bytes: &[u8]) -> Result<Items<Tree>, OrMemory<TextFault>>
+    requires { length bytes.now ≤ 1048576 }
+    ensures { Answers result (tokens_from 0 bytes.now) }
 {
     let mut reader = Reader::new(alloc);
     let mut at = 0;
@@ -44,7 +56,13 @@ pub fn read(alloc: Global, bytes: &[u8]) -> Result<Items<Tree>, OrMemory<TextFau
 }
 
 impl Reader {
-    fn new(alloc: Global) -> Reader {
+    ghost use Rattle.br_sexpr.specs.Fault.{unclosed};
+    ghost use Rattle.br_sexpr.specs.Progress.{Took, Ends, places};
+
+    fn new(alloc: Global) -> Reader
+        ensures closed { result.open ≡ [] }
+        ensures empty { result.items ≡ [] }
+    {
         Reader {
             alloc,
             open: Items::new(alloc),
@@ -53,7 +71,10 @@ impl Reader {
     }
 
     /// Takes the piece of these bytes that stands at this offset.
-    fn take(&mut self, at: u32, kind: Kind, bytes: &[u8]) -> Result<(), OrMemory<TextFault>> {
+    fn take(&mut self, at: u32, kind: Kind, bytes: &[u8]) -> Result<(), OrMemory<TextFault>>
+        ensures took { OnOk result (Took self.old self.new (token_as at kind bytes.now)) }
+        ensures refused { IfErr result (λ e. Refuses e (places self.old) (token_as at kind bytes.now)) }
+    {
         match kind {
             Kind::Gap => Ok(()),
             Kind::Open => self.open(at),
@@ -63,7 +84,10 @@ impl Reader {
         }
     }
 
-    fn open(&mut self, at: u32) -> Result<(), OrMemory<TextFault>> {
+    fn open(&mut self, at: u32) -> Result<(), OrMemory<TextFault>>
+        ensures took { OnOk result (Took self.old self.new (opens at ∷ [])) }
+        ensures refused { IfErr result (λ e. Refuses e (places self.old) (opens at ∷ [])) }
+    {
         if self.open.len() >= MOST_OPEN {
             return Err(OrMemory::Fault(TextFault::TooDeep(at)));
         }
@@ -72,7 +96,10 @@ impl Reader {
         Ok(())
     }
 
-    fn close(&mut self, at: u32) -> Result<(), OrMemory<TextFault>> {
+    fn close(&mut self, at: u32) -> Result<(), OrMemory<TextFault>>
+        ensures took { OnOk result (Took self.old self.new (closes at ∷ [])) }
+        ensures refused { IfErr result (λ e. Refuses e (places self.old) (closes at ∷ [])) }
+    {
         match self.open.pop() {
             None => Err(OrMemory::Fault(TextFault::ExtraClose(at))),
             Some(list) => {
@@ -83,29 +110,43 @@ impl Reader {
         }
     }
 
-    fn push(&mut self, at: u32, run: &[u8]) -> Result<(), OrMemory<TextFault>> {
-        let name = Name::from_bytes(Vec::from_slice(self.alloc, run)?);
-        let tree = match name {
-            Some(text) => Tree::Name { at, text },
-            None => match number(run) {
-                Some(value) => Tree::Number { at, value },
-                None => return Err(OrMemory::Fault(TextFault::BadNumber(at))),
-            },
-        };
-        self.items.push(tree)?;
+    fn push(&mut self, at: u32, run: &[u8]) -> Result<(), OrMemory<TextFault>>
+        ensures took { OnOk result (Took self.old self.new (token_of_run at run.now ∷ [])) }
+        ensures refused { IfErr result (λ e. Refuses e (places self.old) (token_of_run at run.now ∷ [])) }
+    {
+        self.items.push(word(self.alloc, at, run)?)?;
         Ok(())
     }
 
-    fn finish(self) -> Result<Items<Tree>, OrMemory<TextFault>> {
-        let Reader {
-            alloc: _,
-            open,
-            items,
-        } = self;
-        match open.get(0) {
-            None => Ok(items),
-            Some(first) => Err(OrMemory::Fault(TextFault::Unclosed(first.at))),
+    /// The offset of the outermost list that is open.
+    fn first_open(&self) -> Option<u32>
+        ensures { MatchOption result (self.now.open ≡ []) (λ at. unclosed (places self.now) ≡ Some (TextFault.Unclosed at)) }
+    {
+        let first = self.open.as_slice().first()?;
+        Some(first.at)
+    }
+
+    fn finish(self) -> Result<Items<Tree>, OrMemory<TextFault>>
+        ensures { Ends self result }
+    {
+        match self.first_open() {
+            None => Ok(self.items),
+            Some(at) => Err(OrMemory::Fault(TextFault::Unclosed(at))),
         }
+    }
+}
+
+/// The name or the number that a run at this offset is.
+fn word(alloc: Global, at: u32, run: &[u8]) -> Result<Tree, OrMemory<TextFault>>
+    ensures tree { IfOk result (λ tree. IsWord tree (token_of_run at run.now)) }
+    ensures refused { IfErr result (λ e. (xs : List ℕ) → Refuses e xs (token_of_run at run.now ∷ [])) }
+{
+    if let Some(text) = Name::from_bytes(Vec::from_slice(alloc, run)?) {
+        return Ok(Tree::Name { at, text });
+    }
+    match number(run) {
+        Some(value) => Ok(Tree::Number { at, value }),
+        None => Err(OrMemory::Fault(TextFault::BadNumber(at))),
     }
 }
 

@@ -1,0 +1,12 @@
+pub mod Again
+pub mod Cutting
+pub mod Decimals
+pub mod Digits
+pub mod Faults
+pub mod ForestLemmas
+pub mod Layouts
+pub mod OneAnswer
+pub mod Results
+pub mod Steps
+pub mod Trees
+pub mod Whole
