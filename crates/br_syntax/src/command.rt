@@ -5,7 +5,7 @@ use crate::fault::ShapeFault;
 use crate::part::{buffer_size, name, names};
 use crate::program::{Cmd, Expr};
 use crate::shaped::{Shaped, both, push};
-use crate::word::{CmdWord, offset, word};
+use crate::word::{CmdWord, cmd_word, offset, word};
 use br_base::{Name, NoMemory};
 use br_sexpr::Tree;
 use br_words::Size;
@@ -17,7 +17,7 @@ use std::alloc::Global;
 pub fn command(alloc: Global, tree: &Tree) -> Result<Shaped<Cmd>, NoMemory> {
     match tree {
         Tree::List { at, items } => match items.as_slice() {
-            [head, parts @ ..] => match CmdWord::from_bytes(word(head)) {
+            [head, parts @ ..] => match cmd_word(word(head)) {
                 Some(first) => form(alloc, *at, first, parts),
                 None => Ok(Err(ShapeFault::BadForm(*at))),
             },
@@ -29,12 +29,7 @@ pub fn command(alloc: Global, tree: &Tree) -> Result<Shaped<Cmd>, NoMemory> {
 
 // The command at this offset that begins with this word and has these parts.
 #[cycle(command)]
-fn form(
-    alloc: Global,
-    at: u32,
-    first: CmdWord,
-    parts: &[Tree],
-) -> Result<Shaped<Cmd>, NoMemory> {
+fn form(alloc: Global, at: u32, first: CmdWord, parts: &[Tree]) -> Result<Shaped<Cmd>, NoMemory> {
     match first {
         CmdWord::Skip => Ok(skip(at, parts)),
         CmdWord::Set => set(alloc, at, parts),

@@ -1,10 +1,15 @@
 // Trees as expressions.
 
+ghost use Rattle.std.specs.Prelude.{◌≡◌, IfOk, map};
+ghost use Rattle.br_syntax.specs.declared.program.Expr.TheVariants.{Load, Table, Op};
+ghost use Rattle.br_syntax.specs.Shaped.{◌<$>◌, both};
+ghost use Rattle.br_syntax.specs.Denotes.{expression, expression_of, of_two, of_three, with_expression};
+
 use crate::fault::ShapeFault;
 use crate::part::{MOST_NAMES, bytes};
 use crate::program::Expr;
 use crate::shaped::{Shaped, both, lowest, push};
-use crate::word::{ExprWord, offset, word};
+use crate::word::{ExprWord, expr_word, offset, word};
 use br_base::NoMemory;
 use br_sexpr::Tree;
 use br_words::{BinOp, Size};
@@ -12,33 +17,70 @@ use sqlite_items::{Boxed, Items};
 use std::alloc::Global;
 
 /// A place that asks for an expression.
-pub fn expression(alloc: Global, tree: &Tree) -> Result<Shaped<Expr>, NoMemory> {
+#[cycle(expression)]
+#[tactic(auto, using(crate::proofs::Equations::expressions))]
+pub fn expression(alloc: Global, tree: &Tree) -> Result<Shaped<Expr>, NoMemory>
+    ensures { IfOk result (λ r. r ≡ expression tree.now) }
+{
     match tree {
         Tree::Number { value, .. } => Ok(Ok(Expr::Literal(*value))),
         Tree::Name { text, .. } => Ok(Ok(Expr::Var(text.copy()?))),
-        Tree::List { at, items } => match items.as_slice() {
-            [head, x] => match ExprWord::from_bytes(word(head)) {
-                Some(ExprWord::Load(size)) => load(alloc, size, expression(alloc, x)?),
-                _ => Ok(Err(ShapeFault::BadForm(*at))),
-            },
-            [head, x, y] => match ExprWord::from_bytes(word(head)) {
-                Some(ExprWord::Table(size)) => {
-                    table(alloc, size, bytes(alloc, x)?, expression(alloc, y)?)
-                }
-                Some(ExprWord::Op(operation)) => operate(
-                    alloc,
-                    operation,
-                    expression(alloc, x)?,
-                    expression(alloc, y)?,
-                ),
-                _ => Ok(Err(ShapeFault::BadForm(*at))),
-            },
-            _ => Ok(Err(ShapeFault::BadForm(*at))),
-        },
+        Tree::List { at, items } => expression_of(alloc, *at, items.as_slice()),
     }
 }
 
-fn load(alloc: Global, size: Size, address: Shaped<Expr>) -> Result<Shaped<Expr>, NoMemory> {
+// The expression in a list of these items.
+#[cycle(expression)]
+#[tactic(auto, using(crate::proofs::Lists::lists))]
+fn expression_of(alloc: Global, at: u32, items: &[Tree]) -> Result<Shaped<Expr>, NoMemory>
+    ensures { IfOk result (λ r. r ≡ expression_of at (map with_expression items.now)) }
+{
+    match items {
+        [head, x] => of_two(alloc, at, expr_word(word(head)), x),
+        [head, x, y] => of_three(alloc, at, expr_word(word(head)), x, y),
+        _ => Ok(Err(ShapeFault::BadForm(at))),
+    }
+}
+
+#[cycle(expression)]
+fn of_two(
+    alloc: Global,
+    at: u32,
+    first: Option<ExprWord>,
+    x: &Tree,
+) -> Result<Shaped<Expr>, NoMemory>
+    ensures { IfOk result (λ r. r ≡ of_two at first (with_expression x.now)) }
+{
+    match first {
+        Some(ExprWord::Load(size)) => load(alloc, size, expression(alloc, x)?),
+        Some(ExprWord::Table(_)) | Some(ExprWord::Op(_)) | None => {
+            Ok(Err(ShapeFault::BadForm(at)))
+        }
+    }
+}
+
+#[cycle(expression)]
+fn of_three(
+    alloc: Global,
+    at: u32,
+    first: Option<ExprWord>,
+    x: &Tree,
+    y: &Tree,
+) -> Result<Shaped<Expr>, NoMemory>
+    ensures { IfOk result (λ r. r ≡ of_three at first (with_expression x.now) (with_expression y.now)) }
+{
+    match first {
+        Some(ExprWord::Table(size)) => table(alloc, size, bytes(alloc, x)?, expression(alloc, y)?),
+        Some(ExprWord::Op(operation)) => {
+            operate(alloc, operation, expression(alloc, x)?, expression(alloc, y)?)
+        }
+        Some(ExprWord::Load(_)) | None => Ok(Err(ShapeFault::BadForm(at))),
+    }
+}
+
+fn load(alloc: Global, size: Size, address: Shaped<Expr>) -> Result<Shaped<Expr>, NoMemory>
+    ensures { IfOk result (λ r. r ≡ Load size <$> address) }
+{
     match address {
         Ok(address) => Ok(Ok(Expr::Load(size, Boxed::new(alloc, address)?))),
         Err(fault) => Ok(Err(fault)),
@@ -50,7 +92,9 @@ fn table(
     size: Size,
     bytes: Shaped<Items<u8>>,
     index: Shaped<Expr>,
-) -> Result<Shaped<Expr>, NoMemory> {
+) -> Result<Shaped<Expr>, NoMemory>
+    ensures { IfOk result (λ r. r ≡ (λ p. Table size p.0 p.1) <$> both bytes index) }
+{
     match both(bytes, index) {
         Ok((bytes, index)) => Ok(Ok(Expr::Table(size, bytes, Boxed::new(alloc, index)?))),
         Err(fault) => Ok(Err(fault)),
@@ -62,7 +106,9 @@ fn operate(
     operation: BinOp,
     first: Shaped<Expr>,
     second: Shaped<Expr>,
-) -> Result<Shaped<Expr>, NoMemory> {
+) -> Result<Shaped<Expr>, NoMemory>
+    ensures { IfOk result (λ r. r ≡ (λ p. Op operation p.0 p.1) <$> both first second) }
+{
     match both(first, second) {
         Ok((first, second)) => {
             let first = Boxed::new(alloc, first)?;
