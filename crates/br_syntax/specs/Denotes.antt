@@ -18,7 +18,7 @@ use Rattle.br_syntax.specs.declared.word.ExprWord.TheVariants as e
 use Rattle.br_syntax.specs.declared.word.CmdWord.{CmdWord}
 use Rattle.br_syntax.specs.declared.word.CmdWord.TheVariants as c
 use Rattle.br_syntax.specs.Shape.{is_buffer_size}
-use Rattle.br_syntax.specs.Shaped.{Shaped, ◌<$>◌, both, all}
+use Rattle.br_syntax.specs.Shaped.{Shaped, ◌<$>◌, lowest, both, all}
 use Rattle.br_syntax.specs.Word.{expr_word, cmd_word}
 
 abbrev pub offset_in : {X : Type 0} → Tree-F X → ℕ
@@ -135,3 +135,142 @@ expression = para-Tree (Shaped Expr) expression_in
 -- a tree beside what it stands for as an expression
 abbrev pub with_expression : Tree → WithExpr
 with_expression t = (t, expression t)
+
+-- an argument of a call or an interaction, behind so many others
+abbrev pub argument_at : ℕ → Tree → Shaped Expr
+argument_at i t = if i == 8 then Err (lowest (TooMany (offset_of t)) (expression t)) else expression t
+
+-- arguments, behind so many others
+abbrev pub arguments_from : ℕ → List Tree → Shaped (List Expr)
+arguments_from i [] = Ok []
+arguments_from i (t ∷ ts) = (λ p. p.0 ∷ p.1) <$> both (argument_at i t) (arguments_from (i + 1) ts)
+
+-- what a tree stands for where a command is asked for, and where commands behind a word are
+pub record Places : Type 0 where
+  pub command : Shaped Cmd
+  pub behind : List ℕ → Shaped (List Cmd)
+
+-- a tree beside what it stands for at those places
+abbrev pub WithPlaces : Type 0
+WithPlaces = Tree × Places
+
+-- places that ask for commands
+abbrev pub body_of : List WithPlaces → Shaped (List Cmd)
+body_of parts = all (map (λ part. part.1.command) parts)
+
+abbrev pub skip_of : ℕ → List WithPlaces → Shaped Cmd
+skip_of at [] = Ok cmd.Skip
+skip_of at (x ∷ more) = Err (BadForm at)
+
+abbrev pub set_of : ℕ → List WithPlaces → Shaped Cmd
+set_of at (variable ∷ value ∷ []) = (λ p. cmd.Set p.0 p.1) <$> both (name variable.0) (expression value.0)
+set_of at _ = Err (BadForm at)
+
+abbrev pub unset_of : ℕ → List WithPlaces → Shaped Cmd
+unset_of at (variable ∷ []) = cmd.Unset <$> name variable.0
+unset_of at _ = Err (BadForm at)
+
+abbrev pub store_of : ℕ → Size → List WithPlaces → Shaped Cmd
+store_of at size (address ∷ value ∷ []) =
+    (λ p. cmd.Store size p.0 p.1) <$> both (expression address.0) (expression value.0)
+store_of at size _ = Err (BadForm at)
+
+abbrev pub stackalloc_of : ℕ → List WithPlaces → Shaped Cmd
+stackalloc_of at (variable ∷ size ∷ body) =
+    (λ p. cmd.Stackalloc p.0.0 p.0.1 p.1) <$> both (both (name variable.0) (buffer_size size.0)) (body_of body)
+stackalloc_of at _ = Err (BadForm at)
+
+abbrev pub if_of : ℕ → List WithPlaces → Shaped Cmd
+if_of at (test ∷ then_part ∷ else_part ∷ []) =
+    (λ p. cmd.If p.0.0 p.0.1 p.1)
+    <$> both (both (expression test.0) (then_part.1.behind (codes "then"))) (else_part.1.behind (codes "else"))
+if_of at _ = Err (BadForm at)
+
+abbrev pub while_of : ℕ → List WithPlaces → Shaped Cmd
+while_of at (test ∷ body) = (λ p. cmd.While p.0 p.1) <$> both (expression test.0) (body_of body)
+while_of at [] = Err (BadForm at)
+
+abbrev pub seq_of : List WithPlaces → Shaped Cmd
+seq_of body = cmd.Seq <$> body_of body
+
+-- the results, the name and the arguments of a call or an interaction
+abbrev pub target_of : Tree → Tree → List Tree → Shaped ((List (List ℕ) × List ℕ) × List Expr)
+target_of results called arguments = both (both (names results) (name called)) (arguments_from 0 arguments)
+
+abbrev pub call_of : ℕ → List WithPlaces → Shaped Cmd
+call_of at (results ∷ callee ∷ arguments) =
+    (λ p. cmd.Call (offset_of callee.0) p.0.0 p.0.1 p.1)
+    <$> target_of results.0 callee.0 (map (λ part. part.0) arguments)
+call_of at _ = Err (BadForm at)
+
+abbrev pub interact_of : ℕ → List WithPlaces → Shaped Cmd
+interact_of at (results ∷ action ∷ arguments) =
+    (λ p. cmd.Interact (offset_of action.0) p.0.0 p.0.1 p.1)
+    <$> target_of results.0 action.0 (map (λ part. part.0) arguments)
+interact_of at _ = Err (BadForm at)
+
+-- a list that begins with this word and has these parts, at a place that asks for a command
+abbrev pub form_of : ℕ → Option CmdWord → List WithPlaces → Shaped Cmd
+form_of at (Some c.Skip) parts = skip_of at parts
+form_of at (Some c.Set) parts = set_of at parts
+form_of at (Some c.Unset) parts = unset_of at parts
+form_of at (Some (c.Store size)) parts = store_of at size parts
+form_of at (Some c.Stackalloc) parts = stackalloc_of at parts
+form_of at (Some c.If) parts = if_of at parts
+form_of at (Some c.While) parts = while_of at parts
+form_of at (Some c.Seq) parts = seq_of parts
+form_of at (Some c.Call) parts = call_of at parts
+form_of at (Some c.Interact) parts = interact_of at parts
+form_of at None parts = Err (BadForm at)
+
+abbrev pub command_of : ℕ → List WithPlaces → Shaped Cmd
+command_of at [] = Err (BadForm at)
+command_of at (head ∷ parts) = form_of at (cmd_word (word_of head.0)) parts
+
+-- a list of these items at a place that asks for commands behind this word
+abbrev pub behind_of : ℕ → List WithPlaces → List ℕ → Shaped (List Cmd)
+behind_of at [] word = Err (BadForm at)
+behind_of at (head ∷ body) word = if bytes_eq (word_of head.0) word then body_of body else Err (BadForm at)
+
+abbrev pub places_in : Tree-F WithPlaces → Places
+places_in (Name at text) = record { command = Err (BadForm at); behind = λ word. Err (BadForm at) }
+places_in (Number at value) = record { command = Err (BadForm at); behind = λ word. Err (BadForm at) }
+places_in (Items at items) = record { command = command_of at items; behind = behind_of at items }
+
+abbrev pub places : Tree → Places
+places = para-Tree Places places_in
+
+abbrev pub with_places : Tree → WithPlaces
+with_places t = (t, places t)
+
+-- a place that asks for a command
+abbrev pub command : Tree → Shaped Cmd
+command t = (places t).command
+
+-- places that ask for commands
+abbrev pub commands : List Tree → Shaped (List Cmd)
+commands trees = body_of (map with_places trees)
+
+-- the parts of a function
+abbrev pub function_of : Tree → Tree → Tree → List Tree → Shaped Func
+function_of called arguments results body =
+    (λ p. record { at = offset_of called; name = p.0.0; args = p.0.1; results = p.1.0; body = p.1.1 })
+    <$> both (both (name called) (names arguments)) (both (names results) (commands body))
+
+abbrev pub function_list : ℕ → List Tree → Shaped Func
+function_list at (head ∷ called ∷ arguments ∷ results ∷ body) =
+    if bytes_eq (word_of head) (codes "fn") then function_of called arguments results body else Err (BadForm at)
+function_list at _ = Err (BadForm at)
+
+abbrev pub function_in : Tree-F Tree → Shaped Func
+function_in (Name at text) = Err (BadForm at)
+function_in (Number at value) = Err (BadForm at)
+function_in (Items at items) = function_list at items
+
+-- a place that asks for a function
+abbrev pub function : Tree → Shaped Func
+function t = function_in (out-Tree t)
+
+-- a text asks for functions
+abbrev pub functions : List Tree → Shaped (List Func)
+functions trees = all (map function trees)

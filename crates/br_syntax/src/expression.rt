@@ -3,7 +3,7 @@
 ghost use Rattle.std.specs.Prelude.{◌≡◌, IfOk, map};
 ghost use Rattle.br_syntax.specs.declared.program.Expr.TheVariants.{Load, Table, Op};
 ghost use Rattle.br_syntax.specs.Shaped.{◌<$>◌, both};
-ghost use Rattle.br_syntax.specs.Denotes.{expression, expression_of, of_two, of_three, with_expression};
+ghost use Rattle.br_syntax.specs.Denotes.{expression, expression_of, of_two, of_three, with_expression, argument_at, arguments_from};
 
 use crate::fault::ShapeFault;
 use crate::part::{MOST_NAMES, bytes};
@@ -120,7 +120,10 @@ fn operate(
 }
 
 /// The arguments of a call or an interaction.
-pub fn arguments(alloc: Global, items: &[Tree]) -> Result<Shaped<Items<Expr>>, NoMemory> {
+#[tactic(auto, using(crate::proofs::Joined::joins))]
+pub fn arguments(alloc: Global, items: &[Tree]) -> Result<Shaped<Items<Expr>>, NoMemory>
+    ensures { IfOk result (λ r. r ≡ arguments_from 0 items.now) }
+{
     let mut found = Ok(Items::new(alloc));
     for (i, item) in items.iter().enumerate() {
         found = push(found, argument_at(alloc, i, item)?)?;
@@ -129,7 +132,9 @@ pub fn arguments(alloc: Global, items: &[Tree]) -> Result<Shaped<Items<Expr>>, N
 }
 
 // An argument behind so many others.
-fn argument_at(alloc: Global, i: usize, item: &Tree) -> Result<Shaped<Expr>, NoMemory> {
+fn argument_at(alloc: Global, i: usize, item: &Tree) -> Result<Shaped<Expr>, NoMemory>
+    ensures { IfOk result (λ r. r ≡ argument_at i item.now) }
+{
     let found = expression(alloc, item)?;
     if i == MOST_NAMES {
         Ok(Err(lowest(ShapeFault::TooMany(offset(item)), found)))
