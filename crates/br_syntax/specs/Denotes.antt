@@ -1,12 +1,16 @@
 -- What trees stand for, by the kind of tree that their place asks for.
-use Rattle.std.specs.Prelude.{ℕ, ◌+◌, ◌%◌, ◌&&◌, List, [], ◌∷◌, ◌++◌, Option, Some, None, Result, Ok, Err, length, map, nat_le, ◌==◌, if◌then◌else◌, codes}
+use Rattle.std.specs.Prelude.{◌≡◌, ⊤, ℕ, ◌+◌, ◌%◌, ◌&&◌, List, [], ◌∷◌, ◌++◌, Option, Some, None, Result, Ok, Err, length, map, nat_le, ◌==◌, if◌then◌else◌, codes}
 use Rattle.std.specs.List.{list_any}
 use Rattle.std.specs.Str.{bytes_eq}
+use Rattle.br_base.specs.declared.failure.OrMemory.{OrMemory}
+use Rattle.br_base.specs.declared.failure.OrMemory.TheVariants.{Memory, Fault}
+use Rattle.br_words.specs.declared.operation.BinOp.{BinOp}
 use Rattle.br_words.specs.declared.size.Size.{Size}
 use Rattle.br_sexpr.specs.declared.tree.Tree.{Tree, out-Tree}
 use Rattle.br_sexpr.specs.declared.tree.Tree.TheOpen.{Tree-F}
 use Rattle.br_sexpr.specs.declared.tree.Tree.TheOpen.Tree-F.{Name, Number, List as Items}
 use Rattle.br_sexpr.specs.declared.tree.Tree.TheFolds.{para-Tree}
+use Rattle.br_syntax.specs.declared.fault.ShapeFault.{ShapeFault}
 use Rattle.br_syntax.specs.declared.fault.ShapeFault.TheVariants.{BadForm, BadSize, BadByteValue, TooMany, Repeated}
 use Rattle.br_syntax.specs.declared.program.Expr.{Expr}
 use Rattle.br_syntax.specs.declared.program.Expr.TheVariants as expr
@@ -103,16 +107,27 @@ bytes t = bytes_in (out-Tree t)
 abbrev pub WithExpr : Type 0
 WithExpr = Tree × Shaped Expr
 
+abbrev pub load_of : Size → Shaped Expr → Shaped Expr
+load_of size address = expr.Load size <$> address
+
+abbrev pub table_of : Size → Shaped (List ℕ) → Shaped Expr → Shaped Expr
+table_of size bytes index = (λ p. expr.Table size p.0 p.1) <$> both bytes index
+
+abbrev pub operation_of : BinOp → Shaped Expr → Shaped Expr → Shaped Expr
+operation_of operation first second = (λ p. expr.Op operation p.0 p.1) <$> both first second
+
+-- a list of two items
 abbrev pub of_two : ℕ → Option ExprWord → WithExpr → Shaped Expr
-of_two at (Some (e.Load size)) x = expr.Load size <$> x.1
+of_two at (Some (e.Load size)) x = load_of size x.1
 of_two at (Some (e.Table size)) x = Err (BadForm at)
 of_two at (Some (e.Op operation)) x = Err (BadForm at)
 of_two at None x = Err (BadForm at)
 
+-- a list of three items
 abbrev pub of_three : ℕ → Option ExprWord → WithExpr → WithExpr → Shaped Expr
 of_three at (Some (e.Load size)) x y = Err (BadForm at)
-of_three at (Some (e.Table size)) x y = (λ p. expr.Table size p.0 p.1) <$> both (bytes x.0) y.1
-of_three at (Some (e.Op operation)) x y = (λ p. expr.Op operation p.0 p.1) <$> both x.1 y.1
+of_three at (Some (e.Table size)) x y = table_of size (bytes x.0) y.1
+of_three at (Some (e.Op operation)) x y = operation_of operation x.1 y.1
 of_three at None x y = Err (BadForm at)
 
 -- a list of these items at a place that asks for an expression
@@ -274,3 +289,16 @@ function t = function_in (out-Tree t)
 -- a text asks for functions
 abbrev pub functions : List Tree → Shaped (List Func)
 functions trees = all (map function trees)
+
+-- the trees are functions throughout, with no fault of shape, and these are they in order with their offsets
+abbrev pub Denotes : List Tree → List Func → Type 0
+Denotes trees funcs = functions trees ≡ Ok funcs
+
+-- the lowest fault of shape in the trees
+abbrev pub IsShapeFault : List Tree → ShapeFault → Type 0
+IsShapeFault trees fault = functions trees ≡ Err fault
+
+-- what holds of a fault, where the answer is not want of memory
+abbrev pub IfFault : {F : Type 0} → OrMemory F → (F → Type 0) → Type 0
+IfFault Memory P = ⊤
+IfFault (Fault fault) P = P fault

@@ -8,7 +8,6 @@ abbrev pub Shaped : Type 0 → Type 0
 Shaped T = Result T ShapeFault
 
 infixl 10 ◌<$>◌
-
 -- what is made of a part that has no fault
 abbrev pub ◌<$>◌ : {A B : Type 0} → (A → B) → Shaped A → Shaped B
 f <$> Ok a = Ok (f a)

@@ -1,9 +1,7 @@
 // Trees as expressions.
 
 ghost use Rattle.std.specs.Prelude.{◌≡◌, IfOk, map};
-ghost use Rattle.br_syntax.specs.declared.program.Expr.TheVariants.{Load, Table, Op};
-ghost use Rattle.br_syntax.specs.Shaped.{◌<$>◌, both};
-ghost use Rattle.br_syntax.specs.Denotes.{expression, expression_of, of_two, of_three, with_expression, argument_at, arguments_from};
+ghost use Rattle.br_syntax.specs.Denotes.{expression, expression_of, of_two, of_three, with_expression, argument_at, arguments_from, load_of, table_of, operation_of};
 
 use crate::fault::ShapeFault;
 use crate::part::{MOST_NAMES, bytes};
@@ -72,14 +70,19 @@ fn of_three(
     match first {
         Some(ExprWord::Table(size)) => table(alloc, size, bytes(alloc, x)?, expression(alloc, y)?),
         Some(ExprWord::Op(operation)) => {
-            operate(alloc, operation, expression(alloc, x)?, expression(alloc, y)?)
+            operate(
+                alloc,
+                operation,
+                expression(alloc, x)?,
+                expression(alloc, y)?,
+            )
         }
         Some(ExprWord::Load(_)) | None => Ok(Err(ShapeFault::BadForm(at))),
     }
 }
 
 fn load(alloc: Global, size: Size, address: Shaped<Expr>) -> Result<Shaped<Expr>, NoMemory>
-    ensures { IfOk result (λ r. r ≡ Load size <$> address) }
+    ensures { IfOk result (λ r. r ≡ load_of size address) }
 {
     match address {
         Ok(address) => Ok(Ok(Expr::Load(size, Boxed::new(alloc, address)?))),
@@ -93,7 +96,7 @@ fn table(
     bytes: Shaped<Items<u8>>,
     index: Shaped<Expr>,
 ) -> Result<Shaped<Expr>, NoMemory>
-    ensures { IfOk result (λ r. r ≡ (λ p. Table size p.0 p.1) <$> both bytes index) }
+    ensures { IfOk result (λ r. r ≡ table_of size bytes index) }
 {
     match both(bytes, index) {
         Ok((bytes, index)) => Ok(Ok(Expr::Table(size, bytes, Boxed::new(alloc, index)?))),
@@ -107,7 +110,7 @@ fn operate(
     first: Shaped<Expr>,
     second: Shaped<Expr>,
 ) -> Result<Shaped<Expr>, NoMemory>
-    ensures { IfOk result (λ r. r ≡ (λ p. Op operation p.0 p.1) <$> both first second) }
+    ensures { IfOk result (λ r. r ≡ operation_of operation first second) }
 {
     match both(first, second) {
         Ok((first, second)) => {

@@ -34,10 +34,7 @@ pub fn lowest<B: Drop>(fault: ShapeFault, other: Shaped<B>) -> ShapeFault
 }
 
 /// The items with one more, or the lowest fault.
-pub fn push<T: Drop>(
-    items: Shaped<Items<T>>,
-    item: Shaped<T>,
-) -> Result<Shaped<Items<T>>, NoMemory>
+pub fn push<T: Drop>(items: Shaped<Items<T>>, item: Shaped<T>) -> Result<Shaped<Items<T>>, NoMemory>
     ensures { IfOk result (λ r. r ≡ with_one items item) }
 {
     match both(items, item) {
