@@ -1,5 +1,7 @@
 // What can be wrong with the shape of a tree.
 
+ghost use Rattle.std.specs.Prelude.{◌≡◌};
+
 use thiserror::Error;
 
 /// What is wrong with the shape of a text, and the offset where it shows. Of several the one of
@@ -24,8 +26,12 @@ pub enum ShapeFault {
 }
 
 impl ShapeFault {
+    ghost use Rattle.br_syntax.specs.Fault.{place, lower};
+
     // Faults in their order: by offset, and at one offset by variant.
-    fn place(self) -> u64 {
+    fn place(self) -> u64
+        ensures { result ≡ place self }
+    {
         match self {
             ShapeFault::BadForm(at) => 5 * u64::from(at),
             ShapeFault::BadSize(at) => 5 * u64::from(at) + 1,
@@ -36,7 +42,9 @@ impl ShapeFault {
     }
 
     /// The lower of two faults.
-    pub fn lower(self, other: ShapeFault) -> ShapeFault {
+    pub fn lower(self, other: ShapeFault) -> ShapeFault
+        ensures { result ≡ lower self other }
+    {
         if self.place() <= other.place() {
             self
         } else {

@@ -4,11 +4,12 @@
 mod command;
 mod expression;
 mod fault;
-mod from_tree;
+mod function;
 mod part;
 mod program;
 mod shaped;
 mod word;
 
 pub use fault::ShapeFault;
+pub use function::from_tree;
 pub use program::{Cmd, Expr, Func, Program};

@@ -1,7 +1,12 @@
 // The kinds of trees that hold no command and no expression: names, sizes and bytes.
 
-ghost use Rattle.std.specs.Prelude.{IfOk, IsTrue};
-ghost use Rattle.br_syntax.specs.Shape.{are_names, is_buffer_size};
+ghost use Rattle.std.specs.Prelude.{◌≡◌, IfOk, [], map};
+ghost use Rattle.std.specs.List.{list_any};
+ghost use Rattle.std.specs.Str.{bytes_eq};
+ghost use Rattle.br_sexpr.specs.declared.tree.Tree.{out-Tree};
+ghost use Rattle.br_syntax.specs.declared.fault.ShapeFault.TheVariants.{BadForm};
+ghost use Rattle.br_syntax.specs.Shaped.{all};
+ghost use Rattle.br_syntax.specs.Denotes.{offset_of, word_of, name, names, names_after, name_among, buffer_size, bytes, byte};
 
 use crate::fault::ShapeFault;
 use crate::shaped::{Shaped, push};
@@ -17,12 +22,16 @@ pub const MOST_NAMES: usize = 8;
 /// The largest size of a buffer.
 const LARGEST_BUFFER: u32 = 65536;
 
-pub fn bad_form(tree: &Tree) -> ShapeFault {
+pub fn bad_form(tree: &Tree) -> ShapeFault
+    ensures { result ≡ BadForm (offset_of tree.now) }
+{
     ShapeFault::BadForm(offset(tree))
 }
 
 /// A place that asks for a name.
-pub fn name(tree: &Tree) -> Result<Shaped<Name>, NoMemory> {
+pub fn name(tree: &Tree) -> Result<Shaped<Name>, NoMemory>
+    ensures { IfOk result (λ r. r ≡ name tree.now) }
+{
     match tree {
         Tree::Name { text, .. } => Ok(Ok(text.copy()?)),
         Tree::Number { at, .. } | Tree::List { at, .. } => Ok(Err(ShapeFault::BadForm(*at))),
@@ -30,14 +39,19 @@ pub fn name(tree: &Tree) -> Result<Shaped<Name>, NoMemory> {
 }
 
 /// A place that asks for a list of names.
-pub fn names(alloc: Global, tree: &Tree) -> Result<Shaped<Items<Name>>, NoMemory> {
+pub fn names(alloc: Global, tree: &Tree) -> Result<Shaped<Items<Name>>, NoMemory>
+    ensures { IfOk result (λ r. r ≡ names tree.now) }
+{
     match tree {
         Tree::List { items, .. } => name_items(alloc, items.as_slice()),
         Tree::Name { at, .. } | Tree::Number { at, .. } => Ok(Err(ShapeFault::BadForm(*at))),
     }
 }
 
-fn name_items(alloc: Global, items: &[Tree]) -> Result<Shaped<Items<Name>>, NoMemory> {
+#[tactic(auto, using(crate::proofs::Joined::joins))]
+fn name_items(alloc: Global, items: &[Tree]) -> Result<Shaped<Items<Name>>, NoMemory>
+    ensures { IfOk result (λ r. r ≡ names_after [] items.now) }
+{
     let mut found = Ok(Items::new(alloc));
     for (i, item) in items.iter().enumerate() {
         found = push(found, name_after(&items[..i], item)?)?;
@@ -46,7 +60,9 @@ fn name_items(alloc: Global, items: &[Tree]) -> Result<Shaped<Items<Name>>, NoMe
 }
 
 // An item of a list of names, after these items.
-fn name_after(earlier: &[Tree], item: &Tree) -> Result<Shaped<Name>, NoMemory> {
+fn name_after(earlier: &[Tree], item: &Tree) -> Result<Shaped<Name>, NoMemory>
+    ensures { IfOk result (λ r. r ≡ name_among earlier.now (out-Tree item.now)) }
+{
     let Tree::Name { at, text } = item else {
         return Ok(Err(bad_form(item)));
     };
@@ -59,12 +75,16 @@ fn name_after(earlier: &[Tree], item: &Tree) -> Result<Shaped<Name>, NoMemory> {
     Ok(Ok(text.copy()?))
 }
 
-fn stands_among(name: &[u8], items: &[Tree]) -> bool {
+fn stands_among(name: &[u8], items: &[Tree]) -> bool
+    ensures { result ≡ list_any (λ t. bytes_eq (word_of t) name.now) items.now }
+{
     items.iter().any(|item| word(item) == name)
 }
 
 /// A place that asks for the size of a buffer.
-pub fn buffer_size(tree: &Tree) -> Shaped<u32> {
+pub fn buffer_size(tree: &Tree) -> Shaped<u32>
+    ensures { result ≡ buffer_size tree.now }
+{
     match tree {
         Tree::Number { at, value } => {
             if *value % 4 == 0 && *value <= LARGEST_BUFFER {
@@ -78,14 +98,19 @@ pub fn buffer_size(tree: &Tree) -> Shaped<u32> {
 }
 
 /// A place that asks for the bytes of a table.
-pub fn bytes(alloc: Global, tree: &Tree) -> Result<Shaped<Items<u8>>, NoMemory> {
+pub fn bytes(alloc: Global, tree: &Tree) -> Result<Shaped<Items<u8>>, NoMemory>
+    ensures { IfOk result (λ r. r ≡ bytes tree.now) }
+{
     match tree {
         Tree::List { items, .. } => byte_items(alloc, items.as_slice()),
         Tree::Name { at, .. } | Tree::Number { at, .. } => Ok(Err(ShapeFault::BadForm(*at))),
     }
 }
 
-fn byte_items(alloc: Global, items: &[Tree]) -> Result<Shaped<Items<u8>>, NoMemory> {
+#[tactic(auto, using(crate::proofs::Joined::joins))]
+fn byte_items(alloc: Global, items: &[Tree]) -> Result<Shaped<Items<u8>>, NoMemory>
+    ensures { IfOk result (λ r. r ≡ all (map byte items.now)) }
+{
     let mut found = Ok(Items::new(alloc));
     for item in items {
         found = push(found, byte(item))?;
@@ -93,7 +118,9 @@ fn byte_items(alloc: Global, items: &[Tree]) -> Result<Shaped<Items<u8>>, NoMemo
     Ok(found)
 }
 
-fn byte(tree: &Tree) -> Shaped<u8> {
+fn byte(tree: &Tree) -> Shaped<u8>
+    ensures { result ≡ byte tree.now }
+{
     match tree {
         Tree::Number { at, value } => {
             if *value <= 255 {
