@@ -1,3 +1,5 @@
 pub mod Ram
 pub mod Fetch
 pub mod Straight
+pub mod Steps
+pub mod Words
