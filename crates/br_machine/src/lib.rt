@@ -1,6 +1,7 @@
 //! The machine that runs an image: its memory, one step of it, and many.
 #![tactic(auto)]
 
+mod arithmetic;
 mod laws;
 mod stepped;
 
