@@ -5,6 +5,7 @@ ghost use Rattle.br_machine.specs.Layout.{code_base, ram_end};
 ghost use Rattle.br_machine.specs.State.{MachineState, IsMachine, register, with_register, byte_of};
 ghost use Rattle.br_machine.specs.Effects.{at_pc};
 
+use crate::layout::{CODE_BASE, RAM_END, RAM_SIZE};
 use std::marker::Model;
 
 /// A machine of RV32IM with 3 MB of RAM from 0x80000000 on, at whose low end the code stands.
@@ -64,15 +65,23 @@ impl Machine {
         ensures outside { IsNone result ↔ ((a < code_base) ⊎ (ram_end ≤ a)) }
         ensures inside { IfSome result (λ b. b ≡ byte_of self.now a) }
     {
-        if a < 0x8000_0000 || 0x8030_0000 <= a {
+        if a < CODE_BASE || RAM_END <= a {
             None
         } else {
-            Some(self.ram[(a - 0x8000_0000) as usize])
+            Some(self.ram[(a - CODE_BASE) as usize])
         }
     }
 
+    /// How many words of code stand at RAM's low end.
+    pub(crate) fn code_words(&self) -> u32
+        ensures value { result ≡ self.now.code_words }
+        ensures few { result ≤ 262144 }
+    {
+        self.code_words
+    }
+
     // x0 keeps no write.
-    fn set_register(&mut self, r: u32, v: u32)
+    pub(crate) fn set_register(&mut self, r: u32, v: u32)
         requires { r < 32 }
         ensures { self.new ≡ with_register r v self.old }
     {
@@ -81,15 +90,15 @@ impl Machine {
         }
     }
 
-    fn set_pc(&mut self, a: u32)
+    pub(crate) fn set_pc(&mut self, a: u32)
         ensures { self.new ≡ at_pc a self.old }
     {
         self.pc = a;
     }
 
     // The byte at a place of RAM, counted from its low end.
-    fn byte_at(&self, place: u32) -> u32
-        requires { place < 3145728 }
+    pub(crate) fn byte_at(&self, place: u32) -> u32
+        requires { place < RAM_SIZE }
         ensures value { result ≡ slice_index self.now.ram place }
         ensures small { result < 256 }
     {
@@ -97,8 +106,8 @@ impl Machine {
     }
 
     // The low byte of a number is put there.
-    fn set_byte(&mut self, place: u32, v: u32)
-        requires { place < 3145728 }
+    pub(crate) fn set_byte(&mut self, place: u32, v: u32)
+        requires { place < RAM_SIZE }
         ensures { self.new ≡ record self.old { ram = slice_set self.old.ram place (v % 256) } }
     {
         self.ram[place as usize] = (v % 256) as u8;
