@@ -2,3 +2,5 @@ pub mod Ram
 pub mod Fetch
 pub mod Straight
 pub mod Begins
+pub mod Steps
+pub mod Words

@@ -1,6 +1,17 @@
 //! The machine that runs an image: its memory, one step of it, and many.
 #![tactic(auto)]
 
+mod arithmetic;
+mod effects;
+mod laws;
+mod layout;
+mod machine;
+mod memory;
 mod stepped;
+mod traps;
 
+pub use laws::{
+    register_0_reads_0, steps_keep_the_code, steps_make_machines, steps_that_end_change_nothing,
+};
+pub use machine::Machine;
 pub use stepped::{Stepped, Trap};

@@ -1,0 +1,143 @@
+// What an instruction does that breaks no rule.
+
+ghost use Rattle.std.specs.Prelude.{◌≡◌, ℕ, ◌^◌, ◌<◌, ◌+◌, ◌-◌, None};
+ghost use Rattle.br_words.specs.Words.{wrapped};
+ghost use Rattle.br_rv32im.specs.Encoding.{Fits};
+ghost use Rattle.br_machine.specs.Traps.{trap_of};
+ghost use Rattle.br_machine.specs.Effects.{next_pc, computes, jumps, device_read, effect};
+
+use crate::arithmetic::{imm_value, is_taken, reg_value, shift_value};
+use crate::layout::CODE_BASE;
+use crate::machine::Machine;
+use crate::stepped::Stepped;
+use crate::traps::{in_ram, load_size, store_size};
+use br_rv32im::{BranchOp, Ins, LoadOp, StoreOp, UpperOp};
+
+impl Machine {
+    // The address behind this instruction.
+    fn next_pc(&self) -> u32
+        ensures { result ≡ next_pc self.now }
+    {
+        self.pc().wrapping_add(4)
+    }
+
+    // A register takes a value, and the machine goes on behind this instruction.
+    fn compute(&mut self, rd: u32, v: u32)
+        requires { rd < 32 }
+        ensures { self.new ≡ computes rd v self.old }
+    {
+        self.set_pc(self.next_pc());
+        self.set_register(rd, v);
+    }
+
+    // A register takes the address behind this instruction, and the machine goes on at another.
+    fn jump(&mut self, rd: u32, target: u32)
+        requires { rd < 32 }
+        ensures { self.new ≡ jumps rd target self.old }
+    {
+        let behind = self.next_pc();
+        self.set_pc(target);
+        self.set_register(rd, behind);
+    }
+
+    fn upper(&mut self, op: UpperOp, rd: u32, field: u32) -> Stepped
+        requires in_range { Fits (Ins.Upper op rd field) }
+        ensures machine { self.new ≡ (effect (Ins.Upper op rd field) self.old None).0 }
+        ensures end { result ≡ Stepped.Ran }
+    {
+        let high = field * 4096;
+        let v = match op {
+            UpperOp::Lui => high,
+            UpperOp::Auipc => self.pc().wrapping_add(high),
+        };
+        self.compute(rd, v);
+        Stepped::Ran
+    }
+
+    fn branch(&mut self, op: BranchOp, rs1: u32, rs2: u32, imm: i32) -> Stepped
+        requires in_range { Fits (Ins.Branch op rs1 rs2 imm) }
+        ensures machine { self.new ≡ (effect (Ins.Branch op rs1 rs2 imm) self.old None).0 }
+        ensures end { result ≡ Stepped.Ran }
+    {
+        let target = if is_taken(op, self.register(rs1), self.register(rs2)) {
+            self.pc().wrapping_add_signed(imm)
+        } else {
+            self.next_pc()
+        };
+        self.set_pc(target);
+        Stepped::Ran
+    }
+
+    // The device word at `a` is read, where an answer is there.
+    fn read_device(&mut self, rd: u32, a: u32, next_answer: Option<u32>) -> Stepped
+        requires { rd < 32 }
+        ensures machine { self.new ≡ (device_read rd a self.old next_answer).0 }
+        ensures end { result ≡ (device_read rd a self.old next_answer).1 }
+    {
+        match next_answer {
+            None => Stepped::Waiting(a),
+            Some(v) => {
+                self.compute(rd, v);
+                Stepped::Read(a, v)
+            }
+        }
+    }
+
+    fn load(&mut self, op: LoadOp, rd: u32, rs1: u32, imm: i32, next_answer: Option<u32>) -> Stepped
+        requires in_range { Fits (Ins.Load op rd rs1 imm) }
+        ensures machine { self.new ≡ (effect (Ins.Load op rd rs1 imm) self.old next_answer).0 }
+        ensures end { result ≡ (effect (Ins.Load op rd rs1 imm) self.old next_answer).1 }
+    {
+        let a = self.address(rs1, imm);
+        if !in_ram(a, load_size(op)) {
+            return self.read_device(rd, a, next_answer);
+        }
+        let v = self.loaded(op, a - CODE_BASE);
+        self.compute(rd, v);
+        Stepped::Ran
+    }
+
+    fn store(&mut self, op: StoreOp, rs1: u32, rs2: u32, imm: i32) -> Stepped
+        requires in_range { Fits (Ins.Store op rs1 rs2 imm) }
+        ensures machine { self.new ≡ (effect (Ins.Store op rs1 rs2 imm) self.old None).0 }
+        ensures end { result ≡ (effect (Ins.Store op rs1 rs2 imm) self.old None).1 }
+    {
+        let a = self.address(rs1, imm);
+        let v = self.register(rs2);
+        self.set_pc(self.next_pc());
+        if in_ram(a, store_size(op)) {
+            self.store_at(op, a - CODE_BASE, v);
+            Stepped::Ran
+        } else {
+            Stepped::Wrote(a, v)
+        }
+    }
+
+    /// An instruction that breaks no rule has its effect, with the answer that a device would give
+    /// next.
+    pub(crate) fn effect(&mut self, i: Ins, next_answer: Option<u32>) -> Stepped
+        requires in_range { Fits i }
+        ensures machine { self.new ≡ (effect i self.old next_answer).0 }
+        ensures end { result ≡ (effect i self.old next_answer).1 }
+    {
+        match i {
+            Ins::Upper(op, rd, field) => return self.upper(op, rd, field),
+            Ins::Jal(rd, imm) => self.jump(rd, self.pc().wrapping_add_signed(imm)),
+            Ins::Jalr(rd, rs1, imm) => self.jump(rd, self.jalr_target(rs1, imm)),
+            Ins::Branch(op, rs1, rs2, imm) => return self.branch(op, rs1, rs2, imm),
+            Ins::Load(op, rd, rs1, imm) => return self.load(op, rd, rs1, imm, next_answer),
+            Ins::Store(op, rs1, rs2, imm) => return self.store(op, rs1, rs2, imm),
+            Ins::Imm(op, rd, rs1, imm) => {
+                self.compute(rd, imm_value(op, self.register(rs1), imm.cast_unsigned()));
+            }
+            Ins::Shift(op, rd, rs1, amount) => {
+                self.compute(rd, shift_value(op, self.register(rs1), amount));
+            }
+            Ins::Reg(op, rd, rs1, rs2) => {
+                self.compute(rd, reg_value(op, self.register(rs1), self.register(rs2)));
+            }
+            Ins::Ecall => return Stepped::Halted,
+        }
+        Stepped::Ran
+    }
+}

@@ -1,0 +1,41 @@
+// Laws of the machine's step. Each function does nothing: what it ensures is the law.
+
+ghost use Rattle.std.specs.Prelude.{◌≡◌, ℕ, ◌*◌, Option, IfSome, take};
+ghost use Rattle.br_words.specs.Words.{IsWord};
+ghost use Rattle.br_machine.specs.State.{MachineState, IsMachine, register};
+ghost use Rattle.br_machine.specs.Step.{step};
+
+use crate::stepped::{Stepped, Trap};
+use br_rv32im::instructions_and_words_match;
+
+/// A step that waits for an answer, ends the call or breaks a rule leaves the machine as it is.
+pub fn steps_that_end_change_nothing()
+    ensures waiting { (s : MachineState) (next : Option ℕ) (a : ℕ) →
+        (step s next).1 ≡ Stepped.Waiting a → (step s next).0 ≡ s }
+    ensures halted { (s : MachineState) (next : Option ℕ) →
+        (step s next).1 ≡ Stepped.Halted → (step s next).0 ≡ s }
+    ensures trapped { (s : MachineState) (next : Option ℕ) (trap : Trap) (pc : ℕ) →
+        (step s next).1 ≡ Stepped.Trapped trap pc → (step s next).0 ≡ s }
+{}
+
+/// No step changes a byte of the code, nor how many words it has.
+pub fn steps_keep_the_code()
+    ensures bytes { (s : MachineState) (next : Option ℕ) →
+        take (4 * s.code_words) (step s next).0.ram ≡ take (4 * s.code_words) s.ram }
+    ensures words { (s : MachineState) (next : Option ℕ) →
+        (step s next).0.code_words ≡ s.code_words }
+{}
+
+/// Register 0 reads 0 after any step (RISC-V unprivileged manual, chapter 2.1).
+pub fn register_0_reads_0()
+    ensures { (s : MachineState) (next : Option ℕ) → register (step s next).0 0 ≡ 0 }
+{}
+
+/// What a step makes of a machine is a machine, where the answer that it may take is a word: its
+/// registers and its pc are words, and its RAM is of bytes.
+pub fn steps_make_machines()
+    ensures { (s : MachineState) (next : Option ℕ) →
+        IsMachine s → IfSome next IsWord → IsMachine (step s next).0 }
+{
+    instructions_and_words_match();
+}

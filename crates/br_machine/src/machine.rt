@@ -1,0 +1,115 @@
+// The machine, and what is read and set of it.
+
+ghost use Rattle.std.specs.Prelude.{◌≡◌, ℕ, ◌+◌, ◌-◌, ◌%◌, ◌^◌, ◌<◌, ◌≤◌, slice_index, slice_set, IfSome, IsNone, ◌↔◌, ◌⊎◌};
+ghost use Rattle.br_machine.specs.Layout.{code_base, ram_end};
+ghost use Rattle.br_machine.specs.State.{MachineState, IsMachine, register, with_register, byte_of};
+ghost use Rattle.br_machine.specs.Effects.{at_pc};
+
+use crate::layout::{CODE_BASE, RAM_END, RAM_SIZE};
+use std::marker::Model;
+
+/// A machine of RV32IM with 3 MB of RAM from 0x80000000 on, at whose low end the code stands.
+/// Contracts see it as its registers, its pc, the bytes of its RAM and the number of its words of
+/// code.
+#[derive(Drop)]
+pub struct Machine {
+    registers: [u32; 32],
+    pc: u32,
+    ram: Vec<u8>,
+    code_words: u32,
+}
+
+impl Model for Machine {
+    ghost use Rattle.br_machine.specs.State.{MachineState, IsMachine};
+
+    ghost Value = { MachineState };
+
+    ghost view = { λ m. record {
+      registers = m.registers;
+      pc = m.pc;
+      ram = m.ram.items;
+      code_words = m.code_words;
+    } };
+
+    ghost invariant = { λ m. IsMachine (record {
+      registers = m.registers;
+      pc = m.pc;
+      ram = m.ram.items;
+      code_words = m.code_words;
+    }) };
+}
+
+impl Machine {
+    /// What register `r` reads as, `r` below 32; register 0 reads 0 (RISC-V unprivileged manual,
+    /// chapter 2.1).
+    pub fn register(&self, r: u32) -> u32
+        requires { r < 32 }
+        ensures { result ≡ register self.now r }
+    {
+        if r == 0 {
+            0
+        } else {
+            self.registers[r as usize]
+        }
+    }
+
+    /// The address of the next instruction.
+    pub fn pc(&self) -> u32
+        ensures { result ≡ self.now.pc }
+    {
+        self.pc
+    }
+
+    /// The byte at an address, or nothing where the address is outside RAM.
+    pub fn byte(&self, a: u32) -> Option<u8>
+        ensures outside { IsNone result ↔ ((a < code_base) ⊎ (ram_end ≤ a)) }
+        ensures inside { IfSome result (λ b. b ≡ byte_of self.now a) }
+    {
+        if a < CODE_BASE || RAM_END <= a {
+            None
+        } else {
+            Some(self.ram[(a - CODE_BASE) as usize])
+        }
+    }
+
+    /// How many words of code stand at RAM's low end.
+    pub(crate) fn code_words(&self) -> u32
+        ensures value { result ≡ self.now.code_words }
+        ensures few { result ≤ 262144 }
+    {
+        self.code_words
+    }
+
+    // x0 keeps no write.
+    pub(crate) fn set_register(&mut self, r: u32, v: u32)
+        requires { r < 32 }
+        ensures { self.new ≡ with_register r v self.old }
+    {
+        if r != 0 {
+            self.registers[r as usize] = v;
+        }
+    }
+
+    pub(crate) fn set_pc(&mut self, a: u32)
+        ensures { self.new ≡ at_pc a self.old }
+    {
+        self.pc = a;
+    }
+
+    // The byte at a place of RAM, counted from its low end.
+    pub(crate) fn byte_at(&self, place: u32) -> u32
+        requires { place < RAM_SIZE }
+        ensures value { result ≡ slice_index self.now.ram place }
+        ensures small { result < 256 }
+    {
+        self.ram[place as usize] as u32
+    }
+
+    // The low byte of a number is put there.
+    pub(crate) fn set_byte(&mut self, place: u32, v: u32)
+        requires { place < RAM_SIZE }
+        ensures { self.new ≡ record self.old { ram = slice_set self.old.ram place (v % 256) } }
+    {
+        self.ram[place as usize] = (v % 256) as u8;
+    }
+}

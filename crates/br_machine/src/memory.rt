@@ -1,0 +1,73 @@
+// Numbers in RAM, the lowest byte first. A place is counted from RAM's low end.
+
+ghost use Rattle.std.specs.Prelude.{◌≡◌, ◌+◌, ◌^◌, ◌<◌, ◌≤◌};
+ghost use Rattle.br_bytes.specs.Number.{number_of, low_bytes};
+ghost use Rattle.br_machine.specs.State.{bytes_from, with_bytes_from};
+ghost use Rattle.br_machine.specs.Traps.{load_size, store_size};
+ghost use Rattle.br_machine.specs.Effects.{loaded};
+
+use crate::layout::RAM_SIZE;
+use crate::machine::Machine;
+use br_rv32im::{LoadOp, StoreOp};
+use br_words::sext;
+
+impl Machine {
+    fn half_at(&self, place: u32) -> u32
+        requires { place + 2 ≤ RAM_SIZE }
+        ensures value { result ≡ number_of (bytes_from self.now.ram place 2) }
+        ensures small { result < 2 ^ 16 }
+    {
+        self.byte_at(place) + 256 * self.byte_at(place + 1)
+    }
+
+    pub(crate) fn word_at(&self, place: u32) -> u32
+        requires { place + 4 ≤ RAM_SIZE }
+        ensures { result ≡ number_of (bytes_from self.now.ram place 4) }
+    {
+        self.half_at(place) + 65536 * self.half_at(place + 2)
+    }
+
+    /// What a load makes of the bytes from a place on.
+    pub(crate) fn loaded(&self, op: LoadOp, place: u32) -> u32
+        requires { place + load_size op ≤ RAM_SIZE }
+        ensures { result ≡ loaded op (number_of (bytes_from self.now.ram place (load_size op))) }
+    {
+        match op {
+            LoadOp::Lb => sext::<8>(self.byte_at(place)),
+            LoadOp::Lh => sext::<16>(self.half_at(place)),
+            LoadOp::Lw => self.word_at(place),
+            LoadOp::Lbu => self.byte_at(place),
+            LoadOp::Lhu => self.half_at(place),
+        }
+    }
+
+    fn set_half(&mut self, place: u32, v: u32)
+        requires { place + 2 ≤ RAM_SIZE }
+        ensures { self.new ≡ record self.old { ram = with_bytes_from self.old.ram place (low_bytes 2 v) } }
+    {
+        self.set_byte(place, v);
+        self.set_byte(place + 1, v / 256);
+    }
+
+    fn set_word(&mut self, place: u32, v: u32)
+        requires { place + 4 ≤ RAM_SIZE }
+        ensures { self.new ≡ record self.old { ram = with_bytes_from self.old.ram place (low_bytes 4 v) } }
+    {
+        self.set_half(place, v);
+        self.set_half(place + 2, v / 65536);
+    }
+
+    /// The low bytes of a number are put from a place on.
+    pub(crate) fn store_at(&mut self, op: StoreOp, place: u32, v: u32)
+        requires { place + store_size op ≤ RAM_SIZE }
+        ensures { self.new ≡ record self.old {
+          ram = with_bytes_from self.old.ram place (low_bytes (store_size op) v);
+        } }
+    {
+        match op {
+            StoreOp::Sb => self.set_byte(place, v),
+            StoreOp::Sh => self.set_half(place, v),
+            StoreOp::Sw => self.set_word(place, v),
+        }
+    }
+}

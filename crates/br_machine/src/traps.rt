@@ -1,0 +1,140 @@
+// Which rules an instruction would break.
+
+ghost use Rattle.std.specs.Prelude.{◌≡◌, ◌+◌, ◌<◌, ◌≤◌};
+ghost use Rattle.br_words.specs.Device.{in_device_window};
+ghost use Rattle.br_rv32im.specs.Encoding.{Fits};
+ghost use Rattle.br_machine.specs.Traps.{address, jalr_target, in_ram, jump_trap, device_trap, load_trap, store_trap, load_size, store_size, trap_of};
+
+use crate::arithmetic::is_taken;
+use crate::layout::{CODE_BASE, RAM_END};
+use crate::machine::Machine;
+use crate::stepped::Trap;
+use br_rv32im::{Ins, LoadOp, StoreOp};
+
+/// How many bytes a load moves.
+pub(crate) fn load_size(op: LoadOp) -> u32
+    ensures value { result ≡ load_size op }
+    ensures small { result ≤ 4 }
+{
+    match op {
+        LoadOp::Lb | LoadOp::Lbu => 1,
+        LoadOp::Lh | LoadOp::Lhu => 2,
+        LoadOp::Lw => 4,
+    }
+}
+
+/// How many bytes a store moves.
+pub(crate) fn store_size(op: StoreOp) -> u32
+    ensures value { result ≡ store_size op }
+    ensures small { result ≤ 4 }
+{
+    match op {
+        StoreOp::Sb => 1,
+        StoreOp::Sh => 2,
+        StoreOp::Sw => 4,
+    }
+}
+
+/// Whether `n` bytes from `a` on are in RAM.
+pub(crate) fn in_ram(a: u32, n: u32) -> bool
+    requires { n ≤ 4 }
+    ensures { result ≡ in_ram a n }
+{
+    CODE_BASE <= a && a <= RAM_END - n
+}
+
+fn in_device_window(a: u32) -> bool
+    ensures { result ≡ in_device_window a }
+{
+    let gpio = 0x1001_2000 <= a && a < 0x1001_3000;
+    let spi = 0x1002_4000 <= a && a < 0x1002_5000;
+    gpio || spi
+}
+
+fn jump_trap(target: u32) -> Option<Trap>
+    ensures { result ≡ jump_trap target }
+{
+    if target % 4 == 0 {
+        None
+    } else {
+        Some(Trap::FetchMisaligned)
+    }
+}
+
+fn device_trap(a: u32, n: u32) -> Option<Trap>
+    ensures { result ≡ device_trap a n }
+{
+    if !in_device_window(a) {
+        Some(Trap::AccessOutside)
+    } else if n == 4 && a % 4 == 0 {
+        None
+    } else {
+        Some(Trap::DeviceAccess)
+    }
+}
+
+fn load_trap(a: u32, n: u32) -> Option<Trap>
+    requires { n ≤ 4 }
+    ensures { result ≡ load_trap a n }
+{
+    if in_ram(a, n) {
+        None
+    } else {
+        device_trap(a, n)
+    }
+}
+
+fn store_trap(code_words: u32, a: u32, n: u32) -> Option<Trap>
+    requires words { code_words ≤ 262144 }
+    requires bytes { n ≤ 4 }
+    ensures { result ≡ store_trap code_words a n }
+{
+    if !in_ram(a, n) {
+        device_trap(a, n)
+    } else if a < CODE_BASE + 4 * code_words {
+        Some(Trap::CodeWrite)
+    } else {
+        None
+    }
+}
+
+impl Machine {
+    /// The address in a register and an immediate.
+    pub(crate) fn address(&self, base: u32, imm: i32) -> u32
+        requires { base < 32 }
+        ensures { result ≡ address self.now base imm }
+    {
+        self.register(base).wrapping_add_signed(imm)
+    }
+
+    /// Where a JALR leads: the lowest bit is cleared.
+    pub(crate) fn jalr_target(&self, base: u32, imm: i32) -> u32
+        requires { base < 32 }
+        ensures { result ≡ jalr_target self.now base imm }
+    {
+        self.address(base, imm) / 2 * 2
+    }
+
+    /// The rule that an instruction breaks, if it breaks one.
+    pub(crate) fn trap_of(&self, i: Ins) -> Option<Trap>
+        requires { Fits i }
+        ensures { result ≡ trap_of i self.now }
+    {
+        match i {
+            Ins::Jal(_, imm) => jump_trap(self.pc().wrapping_add_signed(imm)),
+            Ins::Jalr(_, rs1, imm) => jump_trap(self.jalr_target(rs1, imm)),
+            Ins::Branch(op, rs1, rs2, imm) => {
+                if is_taken(op, self.register(rs1), self.register(rs2)) {
+                    jump_trap(self.pc().wrapping_add_signed(imm))
+                } else {
+                    None
+                }
+            }
+            Ins::Load(op, _, rs1, imm) => load_trap(self.address(rs1, imm), load_size(op)),
+            Ins::Store(op, rs1, _, imm) => {
+                store_trap(self.code_words(), self.address(rs1, imm), store_size(op))
+            }
+            Ins::Upper(..) | Ins::Imm(..) | Ins::Shift(..) | Ins::Reg(..) | Ins::Ecall => None,
+        }
+    }
+}
