@@ -1,4 +1,5 @@
+pub mod Putting
 mod Pieces
-mod Sums
-mod Writes
+mod Computing
+mod Writing
 mod Whole

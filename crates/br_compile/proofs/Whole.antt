@@ -37,7 +37,7 @@ use Rattle.br_emit.specs.Reaches.{HoldsResults, ShowsEnd, ShowsMemory, Reaches}
 use Rattle.br_compile.specs.Implements.{rate, Follows, Describes, AllDescribed, Implements}
 use Rattle.br_compile.specs.SumCode.{commands_code, entry_code}
 use Rattle.br_compile.proofs.Pieces.{Table, Placed, Room, Keeps, Keeps-then, Keeps-computes, Placed-moves, lui, InsAt, InsAt-front, InsAt-back}
-use Rattle.br_compile.proofs.Writes.{Made, Makes, Matches, Agrees, commands_agree, commands_short}
+use Rattle.br_compile.proofs.Writing.{Made, Makes, Matches, Agrees, commands_agree, commands_short}
 
 -- the code of an entry, as words
 abbrev pub words_of : List Ins → List ℕ

@@ -1,2 +1,3 @@
 pub mod Implements
 pub mod SumCode
+pub mod Puts

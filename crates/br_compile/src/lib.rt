@@ -1,2 +1,6 @@
 //! From source texts to images.
 #![tactic(auto)]
+
+mod sums;
+mod writes;
+

@@ -30,7 +30,7 @@ use Rattle.br_machine.proofs.Fetch.{within_code}
 use Rattle.br_machine.proofs.Straight.{Runs-append, step_writes_word, HasCode-same}
 use Rattle.br_compile.specs.SumCode.{expression_code, both_code, write_code, command_layer_code, command_code, in_turn_code, commands_code}
 use Rattle.br_compile.proofs.Pieces.{Table, Placed, Room, Keeps, Keeps-refl, Keeps-then, InsAt, InsAt-front, InsAt-back, next_word}
-use Rattle.br_compile.proofs.Sums.{parts_code, length-parts_code, both_run, BothComputed, last_at, smaller, IsComputed, expression_computed}
+use Rattle.br_compile.proofs.Computing.{parts_code, length-parts_code, both_run, BothComputed, last_at, smaller, IsComputed, expression_computed}
 
 -- so many steps make these events, and leave the stack pointer and the bytes outside the stack's free part as they were
 pub record Made (code : List ℕ) (low j sp n : ℕ) (es : List Event) (m : Moment) : Type 0 where
