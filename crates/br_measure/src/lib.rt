@@ -1,2 +1,8 @@
 //! How large programs are, and which functions call which.
 #![tactic(auto)]
+
+mod bulk;
+mod fault;
+
+pub use bulk::bulk_of;
+pub use fault::NameFault;
