@@ -1,5 +1,7 @@
 // What can be wrong with a program whose shape is sound.
 
+ghost use Rattle.std.specs.Prelude.{◌≡◌};
+
 use thiserror::Error;
 
 /// What is wrong with a program. The first five stand at the offset that they give, and of several
@@ -32,4 +34,34 @@ pub enum NameFault {
     /// The first function that may need more than 1,048,576 bytes of stack, and its measure.
     #[error("function {0} may need {1} bytes of stack")]
     StackTooDeep(u32, u32),
+}
+
+impl NameFault {
+    ghost use Rattle.br_measure.specs.Names.{place};
+    ghost use Rattle.br_measure.specs.Lowest.{lower_of};
+
+    // Faults of names in their order: by offset, and at one offset by variant.
+    fn place(self) -> u64
+        ensures { result ≡ place self }
+    {
+        match self {
+            NameFault::DuplicateFunction(at) => 5 * u64::from(at),
+            NameFault::UnknownFunction(at) => 5 * u64::from(at) + 1,
+            NameFault::WrongArguments(at) => 5 * u64::from(at) + 2,
+            NameFault::WrongResults(at) => 5 * u64::from(at) + 3,
+            NameFault::UnknownAction(at) => 5 * u64::from(at) + 4,
+            NameFault::TooLarge(_) | NameFault::Recursion(_) | NameFault::StackTooDeep(_, _) => 0,
+        }
+    }
+
+    // The lower of two faults of names.
+    pub fn lower_of(self, other: NameFault) -> NameFault
+        ensures { result ≡ lower_of self other }
+    {
+        if self.place() <= other.place() {
+            self
+        } else {
+            other
+        }
+    }
 }

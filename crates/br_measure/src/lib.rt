@@ -3,6 +3,8 @@
 
 mod bulk;
 mod fault;
+mod lowest;
+mod nested;
 
 pub use bulk::bulk_of;
 pub use fault::NameFault;
