@@ -1,2 +1,10 @@
 //! How large programs are, and which functions call which.
 #![tactic(auto)]
+
+mod bulk;
+mod fault;
+mod lowest;
+mod nested;
+
+pub use bulk::bulk_of;
+pub use fault::NameFault;
