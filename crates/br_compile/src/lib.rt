@@ -3,4 +3,3 @@
 
 mod sums;
 mod writes;
-

@@ -3,7 +3,7 @@
 
 ghost use Rattle.std.specs.Prelude.{◌≡◌, ◌++◌, ◌∷◌, [], ◌<◌, ◌^◌, map, OnOk, IfOk};
 ghost use Rattle.br_rv32im.specs.Encoding.{Fits, FitsBits, FitsSignedBits, word_of};
-ghost use Rattle.br_compile.specs.SumCode.{low_part, high_part, constant_code, push_code, pop_code, expression_code, write_code};
+ghost use Rattle.br_compile.specs.SumCode.{low_part, high_part, constant_code, push_code, pop_code, expression_code};
 ghost use Rattle.br_compile.specs.Puts.{Puts};
 
 use br_base::NoMemory;
@@ -45,7 +45,7 @@ fn put_constant(code: &mut Vec<u32>, n: u32) -> Result<(), NoMemory>
 }
 
 // x5 onto the stack.
-fn put_push(code: &mut Vec<u32>) -> Result<(), NoMemory>
+pub(crate) fn put_push(code: &mut Vec<u32>) -> Result<(), NoMemory>
     ensures { OnOk result (code.new.items ≡ code.old.items ++ map word_of push_code) }
 {
     put(code, Ins::Imm(ImmOp::Addi, 2, 2, -4))?;
@@ -53,7 +53,7 @@ fn put_push(code: &mut Vec<u32>) -> Result<(), NoMemory>
 }
 
 // The top of the stack into x6.
-fn put_pop(code: &mut Vec<u32>) -> Result<(), NoMemory>
+pub(crate) fn put_pop(code: &mut Vec<u32>) -> Result<(), NoMemory>
     ensures { OnOk result (code.new.items ≡ code.old.items ++ map word_of pop_code) }
 {
     put(code, Ins::Load(LoadOp::Lw, 6, 2, 0))?;

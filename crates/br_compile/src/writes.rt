@@ -1,0 +1,69 @@
+// The instructions of commands: writes of sums to device words.
+
+ghost use Rattle.std.specs.Prelude.{◌≡◌, pos, IfOk};
+ghost use Rattle.br_compile.specs.SumCode.{both_code, expression_code, write_code, command_code, commands_code};
+ghost use Rattle.br_compile.specs.Puts.{Puts};
+
+use crate::sums::{put, put_expression, put_pop, put_push};
+use br_base::{Name, NoMemory};
+use br_rv32im::{Ins, StoreOp};
+use br_syntax::{Cmd, Expr};
+
+/// Puts the code of commands in turn. False where one of them is not a write of sums, and then the
+/// code is of no use.
+pub(crate) fn put_commands(code: &mut Vec<u32>, commands: &[Cmd]) -> Result<bool, NoMemory>
+    ensures { IfOk result (λ built. Puts built code.old.items code.new.items (commands_code commands.now)) }
+{
+    for command in commands {
+        if !put_command(code, command)? {
+            return Ok(false);
+        }
+    }
+    Ok(true)
+}
+
+fn put_command(code: &mut Vec<u32>, command: &Cmd) -> Result<bool, NoMemory>
+    ensures { IfOk result (λ built. Puts built code.old.items code.new.items (command_code command.now)) }
+{
+    match command {
+        Cmd::Interact {
+            results,
+            action,
+            args,
+            ..
+        } => {
+            if action.bytes() == b"MMIOWRITE".as_slice() {
+                put_write(code, results.as_slice(), args.as_slice())
+            } else {
+                Ok(false)
+            }
+        }
+        _ => Ok(false),
+    }
+}
+
+// The second of two words goes to the address that is the first.
+fn put_write(code: &mut Vec<u32>, results: &[Name], args: &[Expr]) -> Result<bool, NoMemory>
+    ensures { IfOk result (λ built. Puts built code.old.items code.new.items (write_code results.now args.now)) }
+{
+    match (results, args) {
+        ([], [address, value]) => put_both(code, address, value),
+        _ => Ok(false),
+    }
+}
+
+fn put_both(code: &mut Vec<u32>, address: &Expr, value: &Expr) -> Result<bool, NoMemory>
+    ensures { IfOk result (λ built. Puts built code.old.items code.new.items
+        (both_code (expression_code address.now) (expression_code value.now) (Ins.Store StoreOp.Sw 6 5 (pos 0)))) }
+{
+    if !put_expression(code, address)? {
+        return Ok(false);
+    }
+    put_push(code)?;
+    if !put_expression(code, value)? {
+        return Ok(false);
+    }
+    put_pop(code)?;
+    put(code, Ins::Store(StoreOp::Sw, 6, 5, 0))?;
+    Ok(true)
+}
