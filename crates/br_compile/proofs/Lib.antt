@@ -3,3 +3,4 @@ mod Pieces
 mod Computing
 mod Writing
 mod Whole
+mod Assembled

@@ -43,7 +43,7 @@ use Rattle.br_compile.proofs.Writing.{Made, Makes, Matches, Agrees, commands_agr
 abbrev pub words_of : List Ins → List ℕ
 words_of body = map word_of (entry_code body)
 
-length-words_of : (body : List Ins) → length (words_of body) ≡ length body + 2
+pub length-words_of : (body : List Ins) → length (words_of body) ≡ length body + 2
 length-words_of body = length-map (entry_code body) word_of ∙ omega (arith, length-append body (Ecall ∷ []))
 
 -- ---- one run of the code

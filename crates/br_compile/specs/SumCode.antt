@@ -7,6 +7,7 @@ use Rattle.br_words.specs.declared.operation.BinOp.TheVariants as op
 use Rattle.br_syntax.specs.declared.program.Expr.{Expr}
 use Rattle.br_syntax.specs.declared.program.Expr.TheOpen.{Expr-F}
 use Rattle.br_syntax.specs.declared.program.Expr.TheFolds.{fold-Expr}
+use Rattle.br_syntax.specs.declared.program.Func.{Func}
 use Rattle.br_syntax.specs.declared.program.Cmd.{Cmd, out-Cmd}
 use Rattle.br_syntax.specs.declared.program.Cmd.TheOpen.{Cmd-F}
 use Rattle.br_rv32im.specs.declared.instruction.Ins.{Ins}
@@ -87,3 +88,18 @@ commands_code (c ∷ cs) = in_turn_code (command_code c) (commands_code cs)
 -- and the call ends
 abbrev pub entry_code : List Ins → List Ins
 entry_code body = Upper Lui 2 0x80300 ∷ (body ++ Ecall ∷ [])
+
+-- a function without arguments and results, or None where it is none or its body has no code
+abbrev pub shape_code : List (List ℕ) → List (List ℕ) → Option (List Ins) → Option (List Ins)
+shape_code [] [] (Some body) = Some (entry_code body)
+shape_code [] [] None = None
+shape_code args results body = None
+
+abbrev pub function_code : Func → Option (List Ins)
+function_code f = shape_code f.args f.results (commands_code f.body)
+
+-- a program of at most one function, or None where it is none that is built so far
+abbrev pub program_code : List Func → Option (List Ins)
+program_code [] = Some []
+program_code (f ∷ []) = function_code f
+program_code (f ∷ g ∷ fs) = None

@@ -1,5 +1,6 @@
 //! From source texts to images.
 #![tactic(auto)]
 
+mod images;
 mod sums;
 mod writes;

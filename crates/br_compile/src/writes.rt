@@ -2,12 +2,13 @@
 
 ghost use Rattle.std.specs.Prelude.{◌≡◌, pos, IfOk};
 ghost use Rattle.br_compile.specs.SumCode.{both_code, expression_code, write_code, command_code, commands_code};
-ghost use Rattle.br_compile.specs.Puts.{Puts};
+ghost use Rattle.br_compile.specs.Puts.{Puts, IsWholeCode};
 
 use crate::sums::{put, put_expression, put_pop, put_push};
 use br_base::{Name, NoMemory};
-use br_rv32im::{Ins, StoreOp};
+use br_rv32im::{Ins, StoreOp, UpperOp};
 use br_syntax::{Cmd, Expr};
+use std::alloc::Global;
 
 /// Puts the code of commands in turn. False where one of them is not a write of sums, and then the
 /// code is of no use.
@@ -66,4 +67,18 @@ fn put_both(code: &mut Vec<u32>, address: &Expr, value: &Expr) -> Result<bool, N
     put_pop(code)?;
     put(code, Ins::Store(StoreOp::Sw, 6, 5, 0))?;
     Ok(true)
+}
+
+/// The whole code of a function without arguments and results: the stack pointer is set to the end
+/// of the stack region, the body runs, and the call ends. None where the body is not built.
+pub(crate) fn body_code(alloc: Global, body: &[Cmd]) -> Result<Option<Vec<u32>>, NoMemory>
+    ensures { IfOk result (λ code. IsWholeCode code (commands_code body.now)) }
+{
+    let mut code = Vec::new(alloc);
+    put(&mut code, Ins::Upper(UpperOp::Lui, 2, 0x80300))?;
+    if !put_commands(&mut code, body)? {
+        return Ok(None);
+    }
+    put(&mut code, Ins::Ecall)?;
+    Ok(Some(code))
 }
