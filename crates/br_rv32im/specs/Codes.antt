@@ -20,23 +20,28 @@ use Rattle.br_rv32im.specs.declared.instruction.UpperOp.TheVariants.{Lui, Auipc}
 
 -- ---- opcodes
 
--- U format
+-- LUI and AUIPC, the U format
 abbrev pub opcode_of_upper : UpperOp → ℕ
 opcode_of_upper Lui = 0b0110111
 opcode_of_upper Auipc = 0b0010111
 
+-- JAL, the J format
 abbrev pub opcode_jal : ℕ
 opcode_jal = 0b1101111
 
+-- JALR
 abbrev pub opcode_jalr : ℕ
 opcode_jalr = 0b1100111
 
+-- the branches, the B format
 abbrev pub opcode_branch : ℕ
 opcode_branch = 0b1100011
 
+-- the loads
 abbrev pub opcode_load : ℕ
 opcode_load = 0b0000011
 
+-- the stores, the S format
 abbrev pub opcode_store : ℕ
 opcode_store = 0b0100011
 
@@ -44,7 +49,7 @@ opcode_store = 0b0100011
 abbrev pub opcode_imm : ℕ
 opcode_imm = 0b0010011
 
--- two registers
+-- two registers, the R format
 abbrev pub opcode_reg : ℕ
 opcode_reg = 0b0110011
 
@@ -54,9 +59,11 @@ word_of_ecall = 0x00000073
 
 -- ---- funct3 and funct7
 
+-- the only funct3 of its opcode
 abbrev pub funct3_of_jalr : ℕ
 funct3_of_jalr = 0b000
 
+-- of each branch
 abbrev pub funct3_of_branch : BranchOp → ℕ
 funct3_of_branch Beq = 0b000
 funct3_of_branch Bne = 0b001
@@ -65,6 +72,7 @@ funct3_of_branch Bge = 0b101
 funct3_of_branch Bltu = 0b110
 funct3_of_branch Bgeu = 0b111
 
+-- of each load
 abbrev pub funct3_of_load : LoadOp → ℕ
 funct3_of_load Lb = 0b000
 funct3_of_load Lh = 0b001
@@ -72,11 +80,13 @@ funct3_of_load Lw = 0b010
 funct3_of_load Lbu = 0b100
 funct3_of_load Lhu = 0b101
 
+-- of each store
 abbrev pub funct3_of_store : StoreOp → ℕ
 funct3_of_store Sb = 0b000
 funct3_of_store Sh = 0b001
 funct3_of_store Sw = 0b010
 
+-- of each operation on a register and an immediate
 abbrev pub funct3_of_imm : ImmOp → ℕ
 funct3_of_imm Addi = 0b000
 funct3_of_imm Slti = 0b010
@@ -85,16 +95,19 @@ funct3_of_imm Xori = 0b100
 funct3_of_imm Ori = 0b110
 funct3_of_imm Andi = 0b111
 
+-- of each shift by a constant amount
 abbrev pub funct3_of_shift : ShiftOp → ℕ
 funct3_of_shift Slli = 0b001
 funct3_of_shift Srli = 0b101
 funct3_of_shift Srai = 0b101
 
+-- where a shift by a constant amount has its funct7, the others have immediate bits
 abbrev pub funct7_of_shift : ShiftOp → ℕ
 funct7_of_shift Slli = 0b0000000
 funct7_of_shift Srli = 0b0000000
 funct7_of_shift Srai = 0b0100000
 
+-- of each operation on two registers
 abbrev pub funct3_of_reg : RegOp → ℕ
 funct3_of_reg Add = 0b000
 funct3_of_reg Sub = 0b000
@@ -115,6 +128,7 @@ funct3_of_reg Divu = 0b101
 funct3_of_reg Rem = 0b110
 funct3_of_reg Remu = 0b111
 
+-- and its funct7: 0000001 for the M extension
 abbrev pub funct7_of_reg : RegOp → ℕ
 funct7_of_reg Add = 0b0000000
 funct7_of_reg Sub = 0b0100000
@@ -137,42 +151,54 @@ funct7_of_reg Remu = 0b0000001
 
 -- ---- the operations of a format, and the one that has a code
 
+-- all of them
 abbrev pub branches : List BranchOp
 branches = Beq ∷ Bne ∷ Blt ∷ Bge ∷ Bltu ∷ Bgeu ∷ []
 
+-- the branch that has a funct3
 abbrev pub branch_coded : ℕ → Option BranchOp
 branch_coded funct3 = find (λ o. funct3_of_branch o == funct3) branches
 
+-- all of them
 abbrev pub loads : List LoadOp
 loads = Lb ∷ Lh ∷ Lw ∷ Lbu ∷ Lhu ∷ []
 
+-- the load that has a funct3
 abbrev pub load_coded : ℕ → Option LoadOp
 load_coded funct3 = find (λ o. funct3_of_load o == funct3) loads
 
+-- all of them
 abbrev pub stores : List StoreOp
 stores = Sb ∷ Sh ∷ Sw ∷ []
 
+-- the store that has a funct3
 abbrev pub store_coded : ℕ → Option StoreOp
 store_coded funct3 = find (λ o. funct3_of_store o == funct3) stores
 
+-- all of them
 abbrev pub imms : List ImmOp
 imms = Addi ∷ Slti ∷ Sltiu ∷ Xori ∷ Ori ∷ Andi ∷ []
 
+-- the operation on an immediate that has a funct3
 abbrev pub imm_coded : ℕ → Option ImmOp
 imm_coded funct3 = find (λ o. funct3_of_imm o == funct3) imms
 
+-- all of them
 abbrev pub shifts : List ShiftOp
 shifts = Slli ∷ Srli ∷ Srai ∷ []
 
+-- the shift that has a funct3 and a funct7
 abbrev pub shift_coded : ℕ → ℕ → Option ShiftOp
 shift_coded funct3 funct7 =
     find (λ o. (funct3_of_shift o == funct3) && (funct7_of_shift o == funct7)) shifts
 
+-- all of them
 abbrev pub regs : List RegOp
 regs =
     Add ∷ Sub ∷ Sll ∷ Slt ∷ Sltu ∷ Xor ∷ Srl ∷ Sra ∷ Or ∷ And
     ∷ Mul ∷ Mulh ∷ Mulhsu ∷ Mulhu ∷ Div ∷ Divu ∷ Rem ∷ Remu ∷ []
 
+-- the operation on registers that has a funct3 and a funct7
 abbrev pub reg_coded : ℕ → ℕ → Option RegOp
 reg_coded funct3 funct7 =
     find (λ o. (funct3_of_reg o == funct3) && (funct7_of_reg o == funct7)) regs

@@ -8,6 +8,7 @@ use Rattle.br_rv32im.specs.Codes.{opcode_of_upper, opcode_jal, opcode_jalr, opco
 
 -- ---- the six formats
 
+-- three registers
 abbrev pub r_word : (opcode funct3 funct7 rd rs1 rs2 : ℕ) → ℕ
 r_word opcode funct3 funct7 rd rs1 rs2 =
     funct7 * 2 ^ 25 + rs2 * 2 ^ 20 + rs1 * 2 ^ 15 + funct3 * 2 ^ 12 + rd * 2 ^ 7 + opcode
@@ -43,6 +44,7 @@ j_word opcode rd imm =
 
 -- ---- the word that an instruction is
 
+-- its codes and its fields in its format
 unfoldable pub word_of : Ins → ℕ
 word_of (Upper o rd imm) = u_word (opcode_of_upper o) rd imm
 word_of (Jal rd imm) = j_word opcode_jal rd imm
@@ -65,6 +67,7 @@ FitsBits n x = x < 2 ^ n
 abbrev pub FitsSignedBits : ℕ → ℤ → Type 0
 FitsSignedBits n z = (negsuc (2 ^ (n - 1) - 1) ≤ℤ z) × (z <ℤ pos (2 ^ (n - 1)))
 
+-- a jump or branch offset has no bit 0
 abbrev pub IsEven : ℤ → Type 0
 IsEven z = unsigned_abs z % 2 ≡ 0
 

@@ -21,10 +21,12 @@ use Rattle.br_rv32im.specs.declared.instruction.UpperOp.TheVariants.{Lui, Auipc}
 
 -- ---- mnemonics
 
+-- of LUI and AUIPC
 abbrev pub mnemonic_of_upper : UpperOp → List ℕ
 mnemonic_of_upper Lui = codes "lui"
 mnemonic_of_upper Auipc = codes "auipc"
 
+-- of the branches
 abbrev pub mnemonic_of_branch : BranchOp → List ℕ
 mnemonic_of_branch Beq = codes "beq"
 mnemonic_of_branch Bne = codes "bne"
@@ -33,6 +35,7 @@ mnemonic_of_branch Bge = codes "bge"
 mnemonic_of_branch Bltu = codes "bltu"
 mnemonic_of_branch Bgeu = codes "bgeu"
 
+-- of the loads
 abbrev pub mnemonic_of_load : LoadOp → List ℕ
 mnemonic_of_load Lb = codes "lb"
 mnemonic_of_load Lh = codes "lh"
@@ -40,11 +43,13 @@ mnemonic_of_load Lw = codes "lw"
 mnemonic_of_load Lbu = codes "lbu"
 mnemonic_of_load Lhu = codes "lhu"
 
+-- of the stores
 abbrev pub mnemonic_of_store : StoreOp → List ℕ
 mnemonic_of_store Sb = codes "sb"
 mnemonic_of_store Sh = codes "sh"
 mnemonic_of_store Sw = codes "sw"
 
+-- of the operations on an immediate
 abbrev pub mnemonic_of_imm : ImmOp → List ℕ
 mnemonic_of_imm Addi = codes "addi"
 mnemonic_of_imm Slti = codes "slti"
@@ -53,11 +58,13 @@ mnemonic_of_imm Xori = codes "xori"
 mnemonic_of_imm Ori = codes "ori"
 mnemonic_of_imm Andi = codes "andi"
 
+-- of the shifts by a constant amount
 abbrev pub mnemonic_of_shift : ShiftOp → List ℕ
 mnemonic_of_shift Slli = codes "slli"
 mnemonic_of_shift Srli = codes "srli"
 mnemonic_of_shift Srai = codes "srai"
 
+-- of the operations on registers
 abbrev pub mnemonic_of_reg : RegOp → List ℕ
 mnemonic_of_reg Add = codes "add"
 mnemonic_of_reg Sub = codes "sub"
@@ -101,12 +108,15 @@ address offset base = signed_decimal offset ++ (codes "(" ++ (register base ++ c
 
 -- ---- the text: a mnemonic, and after a space its operands with `, ` between them
 
+-- two operands
 abbrev pub with_two : (mnemonic a b : List ℕ) → List ℕ
 with_two mnemonic a b = mnemonic ++ (codes " " ++ (a ++ (codes ", " ++ b)))
 
+-- three operands
 abbrev pub with_three : (mnemonic a b c : List ℕ) → List ℕ
 with_three mnemonic a b c = with_two mnemonic a (b ++ (codes ", " ++ c))
 
+-- the text of an instruction
 unfoldable pub listing_of : Ins → List ℕ
 listing_of (Upper o rd imm) = with_two (mnemonic_of_upper o) (register rd) (hex_20 imm)
 listing_of (Jal rd imm) = with_two (codes "jal") (register rd) (signed_decimal imm)

@@ -10,21 +10,27 @@ use Rattle.br_rv32im.specs.Codes.{opcode_of_upper, opcode_jal, opcode_jalr, opco
 
 -- ---- the fields of a word
 
+-- the format, and the kind of the instruction
 abbrev pub opcode : ℕ → ℕ
 opcode w = field 6 0 w
 
+-- the register that is written
 abbrev pub rd : ℕ → ℕ
 rd w = field 11 7 w
 
+-- the instruction among those of an opcode
 abbrev pub funct3 : ℕ → ℕ
 funct3 w = field 14 12 w
 
+-- the first register that is read
 abbrev pub rs1 : ℕ → ℕ
 rs1 w = field 19 15 w
 
+-- the second register that is read
 abbrev pub rs2 : ℕ → ℕ
 rs2 w = field 24 20 w
 
+-- the instruction among those of an opcode and a funct3
 abbrev pub funct7 : ℕ → ℕ
 funct7 w = field 31 25 w
 
@@ -56,24 +62,32 @@ abbrev pub imm_j : ℕ → ℤ
 imm_j w =
     signed_bits 21 (field 31 31 w * 2 ^ 20 + field 19 12 w * 2 ^ 12 + field 20 20 w * 2 ^ 11 + field 30 21 w * 2)
 
--- ---- the rows of the opcodes that have several instructions
+-- ---- the rows by opcode
 
+-- JALR is the only instruction of its opcode
+abbrev pub jalr_row : ℕ → Option Ins
+jalr_row w = if funct3 w == funct3_of_jalr then Some (Jalr (rd w) (rs1 w) (imm_i w)) else None
+
+-- the branches
 abbrev pub branch_row : ℕ → Option Ins
 branch_row w = option_map (λ o. Branch o (rs1 w) (rs2 w) (imm_b w)) (branch_coded (funct3 w))
 
+-- the loads
 abbrev pub load_row : ℕ → Option Ins
 load_row w = option_map (λ o. Load o (rd w) (rs1 w) (imm_i w)) (load_coded (funct3 w))
 
+-- the stores
 abbrev pub store_row : ℕ → Option Ins
 store_row w = option_map (λ o. Store o (rs1 w) (rs2 w) (imm_s w)) (store_coded (funct3 w))
 
--- no funct3 is that of a shift and of another operation
+-- a register and an immediate; no funct3 is that of a shift and of another operation
 abbrev pub imm_row : ℕ → Option Ins
 imm_row w =
     option_or
     (option_map (λ o. Imm o (rd w) (rs1 w) (imm_i w)) (imm_coded (funct3 w)))
     (option_map (λ o. Shift o (rd w) (rs1 w) (shamt w)) (shift_coded (funct3 w) (funct7 w)))
 
+-- two registers
 abbrev pub reg_row : ℕ → Option Ins
 reg_row w = option_map (λ o. Reg o (rd w) (rs1 w) (rs2 w)) (reg_coded (funct3 w) (funct7 w))
 
@@ -83,8 +97,7 @@ row_of w =
     if opcode w == opcode_of_upper Lui then Some (Upper Lui (rd w) (imm_u w))
     else if opcode w == opcode_of_upper Auipc then Some (Upper Auipc (rd w) (imm_u w))
     else if opcode w == opcode_jal then Some (Jal (rd w) (imm_j w))
-    else if opcode w == opcode_jalr then
-    if funct3 w == funct3_of_jalr then Some (Jalr (rd w) (rs1 w) (imm_i w)) else None
+    else if opcode w == opcode_jalr then jalr_row w
     else if opcode w == opcode_branch then branch_row w
     else if opcode w == opcode_load then load_row w
     else if opcode w == opcode_store then store_row w

@@ -4,68 +4,63 @@ ghost use Rattle.std.specs.Prelude.{◌≡◌, IfSome};
 ghost use Rattle.br_rv32im.specs.Encoding.{Fits};
 ghost use Rattle.br_rv32im.specs.Row.{row_of};
 
-use crate::immediate::{b_immediate, i_immediate, j_immediate, s_immediate};
+use crate::fields::{b_immediate, fields_of, i_immediate, j_immediate, s_immediate};
 use crate::instruction::{BranchOp, ImmOp, Ins, LoadOp, RegOp, ShiftOp, StoreOp, UpperOp};
 use br_words::bits;
 
 // The instructions by opcode, funct3 and funct7, as far as they have them: for each opcode a format
-// and the codes of its instructions. A word with other codes is no instruction.
+// and the codes of its instructions. A word `w` with the fields `f` and other codes is none.
 macro_rules! decode_table {
-    ($w:ident; $($opcode:literal => $format:ident ($($rows:tt)*),)*) => {{
-        let rd = bits::<11, 7>($w);
-        let funct3 = bits::<14, 12>($w);
-        let rs1 = bits::<19, 15>($w);
-        let rs2 = bits::<24, 20>($w);
-        let funct7 = bits::<31, 25>($w);
-        match bits::<6, 0>($w) {
-            $($opcode => decode_table!(@$format $w rd funct3 rs1 rs2 funct7 $($rows)*),)*
-            _ => None,
-        }
-    }};
-    (@upper $w:ident $rd:ident $funct3:ident $rs1:ident $rs2:ident $funct7:ident $op:ident) => {
-        Some(Ins::Upper(UpperOp::$op, $rd, bits::<31, 12>($w)))
-    };
-    (@jal $w:ident $rd:ident $funct3:ident $rs1:ident $rs2:ident $funct7:ident) => {
-        Some(Ins::Jal($rd, j_immediate($w)))
-    };
-    (@jalr $w:ident $rd:ident $funct3:ident $rs1:ident $rs2:ident $funct7:ident $code:literal) => {
-        match $funct3 {
-            $code => Some(Ins::Jalr($rd, $rs1, i_immediate($w))),
+    ($w:ident, $f:ident; $($opcode:literal => $format:ident ($($rows:tt)*),)*) => {
+        match $f.opcode {
+            $($opcode => decode_table!(@$format $w $f $($rows)*),)*
             _ => None,
         }
     };
-    (@branch $w:ident $rd:ident $funct3:ident $rs1:ident $rs2:ident $funct7:ident $($code:literal $op:ident),*) => {
-        match $funct3 {
-            $($code => Some(Ins::Branch(BranchOp::$op, $rs1, $rs2, b_immediate($w))),)*
+    (@upper $w:ident $f:ident $op:ident) => {
+        Some(Ins::Upper(UpperOp::$op, $f.rd, bits::<31, 12>($w)))
+    };
+    (@jal $w:ident $f:ident) => {
+        Some(Ins::Jal($f.rd, j_immediate($w)))
+    };
+    (@jalr $w:ident $f:ident $funct3:literal) => {
+        match $f.funct3 {
+            $funct3 => Some(Ins::Jalr($f.rd, $f.rs1, i_immediate($w))),
             _ => None,
         }
     };
-    (@load $w:ident $rd:ident $funct3:ident $rs1:ident $rs2:ident $funct7:ident $($code:literal $op:ident),*) => {
-        match $funct3 {
-            $($code => Some(Ins::Load(LoadOp::$op, $rd, $rs1, i_immediate($w))),)*
+    (@branch $w:ident $f:ident $($funct3:literal $op:ident),*) => {
+        match $f.funct3 {
+            $($funct3 => Some(Ins::Branch(BranchOp::$op, $f.rs1, $f.rs2, b_immediate($w))),)*
             _ => None,
         }
     };
-    (@store $w:ident $rd:ident $funct3:ident $rs1:ident $rs2:ident $funct7:ident $($code:literal $op:ident),*) => {
-        match $funct3 {
-            $($code => Some(Ins::Store(StoreOp::$op, $rs1, $rs2, s_immediate($w))),)*
+    (@load $w:ident $f:ident $($funct3:literal $op:ident),*) => {
+        match $f.funct3 {
+            $($funct3 => Some(Ins::Load(LoadOp::$op, $f.rd, $f.rs1, i_immediate($w))),)*
             _ => None,
         }
     };
-    (@imm $w:ident $rd:ident $funct3:ident $rs1:ident $rs2:ident $funct7:ident $($code:literal $op:ident),*; $($shift:literal $above:literal $shift_op:ident),*) => {
-        match ($funct3, $funct7) {
-            $(($code, _) => Some(Ins::Imm(ImmOp::$op, $rd, $rs1, i_immediate($w))),)*
-            $(($shift, $above) => Some(Ins::Shift(ShiftOp::$shift_op, $rd, $rs1, $rs2)),)*
+    (@store $w:ident $f:ident $($funct3:literal $op:ident),*) => {
+        match $f.funct3 {
+            $($funct3 => Some(Ins::Store(StoreOp::$op, $f.rs1, $f.rs2, s_immediate($w))),)*
             _ => None,
         }
     };
-    (@reg $w:ident $rd:ident $funct3:ident $rs1:ident $rs2:ident $funct7:ident $($code:literal $above:literal $op:ident),*) => {
-        match ($funct3, $funct7) {
-            $(($code, $above) => Some(Ins::Reg(RegOp::$op, $rd, $rs1, $rs2)),)*
+    (@imm $w:ident $f:ident $($funct3:literal $op:ident),*; $($shift3:literal $shift7:literal $shift:ident),*) => {
+        match ($f.funct3, $f.funct7) {
+            $(($funct3, _) => Some(Ins::Imm(ImmOp::$op, $f.rd, $f.rs1, i_immediate($w))),)*
+            $(($shift3, $shift7) => Some(Ins::Shift(ShiftOp::$shift, $f.rd, $f.rs1, $f.rs2)),)*
             _ => None,
         }
     };
-    (@ecall $w:ident $rd:ident $funct3:ident $rs1:ident $rs2:ident $funct7:ident $word:literal) => {
+    (@reg $w:ident $f:ident $($funct3:literal $funct7:literal $op:ident),*) => {
+        match ($f.funct3, $f.funct7) {
+            $(($funct3, $funct7) => Some(Ins::Reg(RegOp::$op, $f.rd, $f.rs1, $f.rs2)),)*
+            _ => None,
+        }
+    };
+    (@ecall $w:ident $f:ident $word:literal) => {
         match $w {
             $word => Some(Ins::Ecall),
             _ => None,
@@ -80,7 +75,8 @@ pub fn decode(w: u32) -> Option<Ins>
     ensures row { result ≡ row_of w }
     ensures in_range { IfSome result Fits }
 {
-    decode_table! { w;
+    let f = fields_of(w);
+    decode_table! { w, f;
         0b0110111 => upper(Lui),
         0b0010111 => upper(Auipc),
         0b1101111 => jal(),

@@ -5,8 +5,8 @@
 
 mod decoding;
 mod encoding;
+mod fields;
 mod format;
-mod immediate;
 mod instruction;
 mod laws;
 mod mnemonic;

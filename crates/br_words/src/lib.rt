@@ -16,3 +16,6 @@ pub use laws::{
 };
 pub use operation::{BinOp, op};
 pub use size::Size;
+
+#[cfg(test)]
+mod tests;

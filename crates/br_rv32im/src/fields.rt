@@ -1,10 +1,40 @@
-// The immediate of a word in each format (RISC-V unprivileged manual, immediate encoding variants).
+// The fields of a word and its immediate in each format (RISC-V unprivileged manual, base instruction
+// formats and immediate encoding variants).
 
 ghost use Rattle.std.specs.Prelude.{◌≡◌};
 ghost use Rattle.br_rv32im.specs.Encoding.{FitsSignedBits, IsEven};
-ghost use Rattle.br_rv32im.specs.Row.{imm_b, imm_i, imm_j, imm_s};
+ghost use Rattle.br_rv32im.specs.Row.{funct3, funct7, imm_b, imm_i, imm_j, imm_s, opcode, rd, rs1, rs2};
 
 use br_words::{bits, sext};
+
+/// The fields that stand at one place in every format that has them.
+#[derive(Clone, Copy)]
+pub struct Fields {
+    pub opcode: u32,
+    pub rd: u32,
+    pub funct3: u32,
+    pub rs1: u32,
+    pub rs2: u32,
+    pub funct7: u32,
+}
+
+pub fn fields_of(w: u32) -> Fields
+    ensures opcode { result.opcode ≡ opcode w }
+    ensures rd { result.rd ≡ rd w }
+    ensures funct3 { result.funct3 ≡ funct3 w }
+    ensures rs1 { result.rs1 ≡ rs1 w }
+    ensures rs2 { result.rs2 ≡ rs2 w }
+    ensures funct7 { result.funct7 ≡ funct7 w }
+{
+    Fields {
+        opcode: bits::<6, 0>(w),
+        rd: bits::<11, 7>(w),
+        funct3: bits::<14, 12>(w),
+        rs1: bits::<19, 15>(w),
+        rs2: bits::<24, 20>(w),
+        funct7: bits::<31, 25>(w),
+    }
+}
 
 /// Of the I format: imm[11:0] at 31..20.
 pub fn i_immediate(w: u32) -> i32
