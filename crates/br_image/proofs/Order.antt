@@ -338,7 +338,7 @@ end_read text es ws at next h e =
 forms_read : (text : List ℕ) (es : List Entry) (ws : List ℕ) (at : ℕ) → WordsRead text es (length ws) ws at → All IsLine (lines_of es ws)
 forms_read text es ws at h = IsLine-lines_of es ws h.forms h.counted h.words
 
-length-lines_of : (es : List Entry) (ws : List ℕ) → length (lines_of es ws) ≡ length es + length ws + 3
+pub length-lines_of : (es : List Entry) (ws : List ℕ) → length (lines_of es ws) ≡ length es + length ws + 3
 length-lines_of es ws =
     let entries : length (map Function es) ≡ length es = length-map Function es in
     let words : length (map Word ws) ≡ length ws = length-map Word ws in

@@ -11,6 +11,6 @@ mod reading;
 
 pub use faults::ImageFault;
 pub use images::{Entry, Image};
-pub use laws::two_images_have_two_texts;
+pub use laws::{one_fault_and_no_image, two_images_have_two_texts};
 pub use printing::print;
 pub use reading::read;
