@@ -8,6 +8,8 @@ mod lines;
 mod parsing;
 mod printing;
 mod reading;
+#[cfg(test)]
+mod tests;
 
 pub use faults::ImageFault;
 pub use images::{Entry, Image};
