@@ -1,10 +1,10 @@
 -- A text is an image's or has a fault, never both, and never two faults.
-use Rattle.std.proofs.Common.{◌≡◌, ◌≢◌, ◌⊎◌, inl, inr, ℕ, ◌+◌, ◌*◌, ◌^◌, ◌<◌, ◌≤◌, List, [], ◌∷◌, ◌++◌, refl, ap, sym, ◌∙◌, arith, append_assoc, append-nil, length-append, subst, length, take, get_or, min, Option, Some, None}
-use Rattle.std.specs.Prelude.{All, map, slice_get, Result, Ok, Err, IfOk, IfErr, MatchResult}
+use Rattle.std.proofs.Common.{◌≡◌, ◌≢◌, ◌⊎◌, inl, inr, ℕ, ◌+◌, ◌<◌, List, [], ◌∷◌, ◌++◌, refl, ap, sym, ◌∙◌, arith, append_assoc, append-nil, subst, length, take, get_or, min, Option, Some, None}
+use Rattle.std.specs.Prelude.{All, map, Result, Ok, Err, IfOk, IfErr, MatchResult}
 use Rattle.br_base.specs.declared.failure.OrMemory.{OrMemory}
 use Rattle.br_base.specs.declared.failure.OrMemory.TheVariants.{Memory, Fault}
 use Rattle.std.proofs.lemmas.Bool.{cases_lt}
-use Rattle.std.proofs.lemmas.List.{get_or-take, length-take, get_or_append_left}
+use Rattle.std.proofs.lemmas.List.{get_or-take, length-take}
 use Rattle.std.proofs.lemmas.List.Elements.{All-head, All-tail}
 use Rattle.std.proofs.lemmas.Option.{get_or_from_slice_get, slice_get_within}
 use Rattle.br_image.specs.declared.images.Entry.{Entry}
@@ -14,14 +14,12 @@ use Rattle.br_image.specs.declared.lines.Line.TheVariants.{Header, Function, Cou
 use Rattle.br_image.specs.declared.faults.ImageFault.{ImageFault}
 use Rattle.br_image.specs.declared.faults.ImageFault.TheVariants.{BadLine, BadOrder, BadOffset, Truncated}
 use Rattle.br_image.specs.Text.{line}
-use Rattle.br_image.specs.Limits.{HaveDifferentNames, InLimits}
-use Rattle.br_image.specs.Lines.{IsLine, IsEntryLine, line_text, text_of, lines_of}
+use Rattle.br_image.specs.Limits.{HaveDifferentNames}
+use Rattle.br_image.specs.Lines.{IsLine, line_text, text_of, lines_of}
 use Rattle.br_image.specs.Printed.{image_text}
-use Rattle.br_image.specs.Forms.{Lacks}
-use Rattle.br_image.specs.Faults.{BeginsImage, Reaches, IsFault, IsBadLine, IsMisplaced, IsBehindEnd, IsBadOffset, IsTruncated, IsOffset, ForFault}
+use Rattle.br_image.specs.Faults.{BeginsImage, IsFault, IsBadLine, IsMisplaced, IsBehindEnd, IsBadOffset, IsTruncated, IsOffset, ForFault}
 use Rattle.br_image.specs.Reading.{IsFirstBad}
 use Rattle.br_image.proofs.Pieces.{Free, Free-not, Free-lacks, cut}
-use Rattle.br_image.proofs.Order.{length-lines_of}
 use Rattle.br_image.proofs.Forms.{Free-line, line_text-injective}
 use Rattle.br_image.proofs.Sequences.{text_of-begins, lines_of-injective, lines_of-whole, image_text-lines, IsLine-image, same_text_same_image}
 

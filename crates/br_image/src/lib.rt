@@ -13,6 +13,6 @@ mod tests;
 
 pub use faults::ImageFault;
 pub use images::{Entry, Image};
-pub use laws::{one_fault_and_no_image, two_images_have_two_texts};
+pub use laws::{one_image_or_one_fault, two_images_have_two_texts};
 pub use printing::print;
 pub use reading::read;

@@ -1,4 +1,4 @@
-use Rattle.std.proofs.Common.{◌≡◌, ◌+◌, ◌<◌, ◌≤◌, ◌^◌, ◌++◌, ◌∷◌, [], List, ℕ, length, drop, refl, arith, subst, sym, ◌∙◌, ap}
+use Rattle.std.proofs.Common.{ℕ, length, arith, subst, sym, ◌∙◌, ap}
 use Rattle.std.proofs.lemmas.Result.{err_from_is_err_and}
 use Rattle.br_image.specs.Reading.{WordsRead}
 use Rattle.br_image.proofs.Sequences.{image_text-lines}
