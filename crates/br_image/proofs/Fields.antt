@@ -1,9 +1,8 @@
 -- What the pieces of a line say of the line.
-use Rattle.std.proofs.Common.{◌≡◌, ◌≢◌, ℕ, ◌+◌, ◌^◌, ◌<◌, ◌≤◌, List, [], ◌∷◌, ◌++◌, refl, ap, sym, ◌∙◌, arith, subst, Option, Some, None, append_assoc}
+use Rattle.std.proofs.Common.{◌≡◌, ◌≢◌, ℕ, ◌^◌, ◌<◌, ◌≤◌, List, ◌∷◌, ◌++◌, refl, ap, sym, ◌∙◌, arith, subst, Option, Some, None}
 use Rattle.std.specs.Prelude.{codes, IfSome, IfNone, MatchOption, IsSomeAnd}
 use Rattle.std.specs.Option.{option_map}
 use Rattle.std.specs.Fmt.{decimal}
-use Rattle.std.proofs.lemmas.Fmt.{decimal_injective}
 use lib.Pointwise.{pointwise, bytes_decides}
 use Rattle.std.proofs.Common.{true, false, eqb}
 use Rattle.br_base.specs.Name.{IsName}
@@ -12,7 +11,7 @@ use Rattle.br_image.specs.declared.lines.Line.{Line}
 use Rattle.br_image.specs.declared.lines.Line.TheVariants.{Header, Function, Count, Word, End}
 use Rattle.br_image.specs.Text.{word_text}
 use Rattle.br_image.specs.Lines.{IsLine, IsEntryLine, line_text}
-use Rattle.br_image.specs.Forms.{Lacks, IsLineOf, numbers_text, fields_text}
+use Rattle.br_image.specs.Forms.{Lacks, IsLineOf, fields_text}
 use Rattle.br_image.proofs.Pieces.{Free, Free-not, Free-lacks, Lacks-free, Free-from_test, Free-decimal, Free-name, cut}
 use Rattle.br_image.proofs.Forms.{Free-word, entry_text-fields, apart}
 

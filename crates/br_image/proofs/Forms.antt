@@ -1,5 +1,5 @@
 -- A line's text tells its form.
-use Rattle.std.proofs.Common.{◌≡◌, ◌≢◌, ℕ, ◌+◌, ◌*◌, ◌/◌, ◌%◌, ◌^◌, ◌<◌, ◌≤◌, List, [], ◌∷◌, ◌++◌, refl, ap, sym, ◌∙◌, arith, append_assoc, subst}
+use Rattle.std.proofs.Common.{◌≡◌, ◌≢◌, ℕ, ◌/◌, ◌%◌, ◌^◌, ◌<◌, ◌≤◌, List, ◌∷◌, ◌++◌, refl, ap, sym, ◌∙◌, arith, append_assoc, subst}
 use Rattle.std.proofs.lemmas.List.{append_cancel_left}
 use Rattle.std.specs.Prelude.{codes, slice_index, ◌==◌, false}
 use Rattle.std.specs.Fmt.{decimal}
@@ -8,7 +8,7 @@ use Rattle.std.proofs.lemmas.Bool.Decides.{nat_tests}
 use Rattle.br_image.specs.declared.images.Entry.{Entry}
 use Rattle.br_image.specs.declared.lines.Line.{Line}
 use Rattle.br_image.specs.declared.lines.Line.TheVariants.{Header, Function, Count, Word, End}
-use Rattle.br_image.specs.Text.{entry_text, code_text, word_text, hex_digit}
+use Rattle.br_image.specs.Text.{entry_text, word_text, hex_digit}
 use Rattle.br_image.specs.Forms.{numbers_text}
 use Rattle.br_image.specs.Lines.{IsLine, IsEntryLine, line_text}
 use Rattle.br_image.proofs.Pieces.{Free, Free-append, Free-from_test, Free-decimal, Free-name, cut}

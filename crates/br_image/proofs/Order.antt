@@ -1,11 +1,11 @@
 -- Which lines may stand behind which.
-use Rattle.std.proofs.Common.{◌≡◌, ◌≢◌, ◌⊎◌, inl, inr, ℕ, ◌+◌, ◌*◌, ◌^◌, ◌<◌, ◌≤◌, List, [], ◌∷◌, ◌++◌, refl, ap, sym, ◌∙◌, ◌-◌, arith, append_assoc, length-append, subst, length, drop, take, get_or}
+use Rattle.std.proofs.Common.{◌≡◌, ◌≢◌, ◌⊎◌, inl, inr, ℕ, ◌+◌, ◌^◌, ◌<◌, ◌≤◌, List, [], ◌∷◌, ◌++◌, refl, ap, sym, ◌∙◌, ◌-◌, arith, append_assoc, length-append, length, drop, take, get_or}
 use Rattle.std.proofs.Common.{zero, suc, append-nil}
 use Rattle.std.proofs.lemmas.Bool.{cases_lt}
 use Rattle.br_image.proofs.Sequences.{text_of-append, IsLine-lines_of}
-use Rattle.std.specs.Prelude.{All, Any, AllPairs, map, codes, slice_index_or, replicate}
-use Rattle.std.proofs.lemmas.List.{drop-drop, drop_at, drop_all, take_all, length-drop, length-replicate, map-append, get_or_append_left, get_or-append_right}
-use Rattle.std.proofs.lemmas.List.Elements.{All-cons, All-head, All-tail, All-nil, All-append, All-map, All-push}
+use Rattle.std.specs.Prelude.{All, Any, map, replicate}
+use Rattle.std.proofs.lemmas.List.{drop-drop, drop_at, drop_all, take_all, length-drop, length-replicate, map-append, get_or_append_left}
+use Rattle.std.proofs.lemmas.List.Elements.{All-cons, All-nil, All-append, All-map, All-push}
 use Rattle.br_image.specs.declared.images.Entry.{Entry}
 use Rattle.br_image.specs.declared.lines.Line.{Line}
 use Rattle.br_image.specs.declared.lines.Line.TheVariants.{Header, Function, Count, Word, End}
@@ -14,7 +14,6 @@ use Rattle.br_image.specs.declared.faults.ImageFault.TheVariants.{BadLine, BadOr
 use Rattle.br_image.specs.Text.{line}
 use Rattle.br_image.specs.Limits.{HaveDifferentNames}
 use Rattle.br_image.specs.Lines.{IsLine, IsEntryLine, line_text, text_of, lines_of}
-use Rattle.br_image.specs.Forms.{Lacks}
 use Rattle.br_base.specs.declared.failure.OrMemory.{OrMemory}
 use Rattle.br_base.specs.declared.failure.OrMemory.TheVariants.{Memory, Fault}
 use Rattle.br_image.specs.Faults.{ForFault, BeginsImage, Reaches, IsFault}
@@ -221,7 +220,7 @@ order_fault text n before rest more l h form e misplaced =
 entries_one : (es : List Entry) (x : Entry) → entries_read (es ++ x ∷ []) ≡ entries_read es ++ Function x ∷ []
 entries_one es x = ap (λ t. Header ∷ t) (map-append Function es (x ∷ []))
 
-text_of-one : (ls : List Line) (l : Line) (rest : List ℕ) → text_of ls ++ (line (line_text l) ++ rest) ≡ text_of (ls ++ l ∷ []) ++ rest
+pub text_of-one : (ls : List Line) (l : Line) (rest : List ℕ) → text_of ls ++ (line (line_text l) ++ rest) ≡ text_of (ls ++ l ∷ []) ++ rest
 text_of-one ls l rest =
     let split = text_of-append ls (l ∷ []) in
     let one : text_of (l ∷ []) ≡ line (line_text l) = append-nil (line (line_text l)) in
@@ -338,7 +337,7 @@ end_read text es ws at next h e =
 forms_read : (text : List ℕ) (es : List Entry) (ws : List ℕ) (at : ℕ) → WordsRead text es (length ws) ws at → All IsLine (lines_of es ws)
 forms_read text es ws at h = IsLine-lines_of es ws h.forms h.counted h.words
 
-length-lines_of : (es : List Entry) (ws : List ℕ) → length (lines_of es ws) ≡ length es + length ws + 3
+pub length-lines_of : (es : List Entry) (ws : List ℕ) → length (lines_of es ws) ≡ length es + length ws + 3
 length-lines_of es ws =
     let entries : length (map Function es) ≡ length es = length-map Function es in
     let words : length (map Word ws) ≡ length ws = length-map Word ws in

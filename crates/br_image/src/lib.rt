@@ -8,9 +8,11 @@ mod lines;
 mod parsing;
 mod printing;
 mod reading;
+#[cfg(test)]
+mod tests;
 
 pub use faults::ImageFault;
 pub use images::{Entry, Image};
-pub use laws::two_images_have_two_texts;
+pub use laws::{one_image_or_one_fault, two_images_have_two_texts};
 pub use printing::print;
 pub use reading::read;

@@ -1,8 +1,9 @@
 // Reading the text of an image.
 
-ghost use Rattle.std.specs.Prelude.{◌≡◌, ◌≢◌, ◌+◌, ◌*◌, ◌<◌, ◌≤◌, ◌^◌, ◌++◌, ◌∷◌, ◌↔◌, [], ℕ, List, length, drop, take, All, Any, IsTrue, IsErr, IfOk, IfErr, IfSome, IfNone, MatchOption, slice_get, Some};
+ghost use Rattle.std.specs.Prelude.{◌≡◌, ◌≢◌, ◌+◌, ◌*◌, ◌<◌, ◌≤◌, ◌^◌, ◌++◌, ◌∷◌, ◌↔◌, [], ℕ, List, length, drop, take, All, Any, IsTrue, IsErr, IfOk, IfErr, IfSome, IfNone, MatchOption, MatchResult, slice_get, Some};
 ghost use Rattle.br_base.specs.declared.failure.OrMemory.TheVariants.{Memory};
 ghost use Rattle.br_image.specs.declared.images.Entry.{Entry};
+ghost use Rattle.br_image.specs.declared.images.Image.{Image};
 ghost use Rattle.br_image.specs.declared.lines.Line.TheVariants.{Header};
 ghost use Rattle.br_image.specs.declared.faults.ImageFault.{ImageFault};
 ghost use Rattle.br_image.specs.Text.{line};
@@ -148,8 +149,26 @@ fn bad_offset(entries: &[Entry], words: usize) -> Option<usize>
         .position(|entry| entry.offset % 4 != 0 || entry.offset >= end)
 }
 
-/// The image that a text is the text of, at most 1,073,741,824 bytes of text.
+/// The image that a text is the text of. The text has at most 1,073,741,824 bytes, so that the
+/// numbers of its lines fit.
+///
+/// Every text that is not the text of an image has one fault, and is refused for that fault.
 pub fn read(alloc: Global, text: &[u8]) -> Result<Image, OrMemory<ImageFault>>
+    requires { length text.now ≤ 1073741824 }
+    // What is read has this text, and what is refused has the fault.
+    ensures image { IfOk result (λ i. text.now ≡ image_text i) }
+    ensures refused { IfErr result (λ e. ForFault e (IsFault text.now)) }
+
+    // The text of an image is read as that image, and a text with a fault is refused for it,
+    // unless there is no memory.
+    ensures each_image { (i : Image) → text.now ≡ image_text i → MatchResult result (λ j. j ≡ i) (λ e. e ≡ Memory) }
+    ensures each_fault { (f : ImageFault) → IsFault text.now f → MatchResult result (λ _. ⊥) (λ e. ForFault e (λ g. g ≡ f)) }
+{
+    read_image(alloc, text)
+}
+
+/// The image that a text is the text of, or the fault.
+fn read_image(alloc: Global, text: &[u8]) -> Result<Image, OrMemory<ImageFault>>
     requires { length text.now ≤ 1073741824 }
     ensures image { IfOk result (λ i. text.now ≡ image_text i) }
     ensures refused { IfErr result (λ e. ForFault e (IsFault text.now)) }

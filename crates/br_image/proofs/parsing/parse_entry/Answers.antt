@@ -1,4 +1,4 @@
-use Rattle.std.proofs.Common.{◌≡◌, List, ℕ, ◌∙◌, sym, subst, arith}
+use Rattle.std.proofs.Common.{◌≡◌, List, ℕ, ◌∙◌, sym, subst}
 use Rattle.br_base.specs.Name.{IsName}
 use Rattle.br_image.proofs.Fields.{name_space, name_rest}
 use Rattle.br_image.proofs.parsing.parse_entry.Goals as goal

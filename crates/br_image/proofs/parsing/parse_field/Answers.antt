@@ -1,4 +1,4 @@
-use Rattle.std.proofs.Common.{◌≡◌, ◌<◌, ◌^◌, arith}
+use Rattle.std.proofs.Common.{arith}
 use Rattle.br_image.proofs.Decoding.{IfNone-holds}
 use Rattle.br_image.proofs.Fields.{field_space, field_digits}
 use Rattle.br_image.proofs.parsing.parse_field.Goals as goal

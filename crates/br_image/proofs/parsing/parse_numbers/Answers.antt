@@ -1,4 +1,4 @@
-use Rattle.std.proofs.Common.{◌≡◌, ◌<◌, ◌^◌, arith}
+use Rattle.std.proofs.Common.{arith}
 use Rattle.br_image.proofs.Decoding.{IfNone-holds}
 use Rattle.br_image.proofs.Fields.{field_rest}
 use Rattle.br_image.proofs.parsing.parse_numbers.Goals as goal

@@ -1,4 +1,4 @@
-use Rattle.std.proofs.Common.{◌≡◌, ◌≢◌, ◌∙◌, ap, Bool, true, false, sym}
+use Rattle.std.proofs.Common.{◌≡◌, ◌∙◌, ap, true, false, sym}
 use Rattle.std.specs.Prelude.{is_some, is_ok}
 use Rattle.std.specs.Int.{from_be_bytes, w32}
 use Rattle.std.proofs.lemmas.Nat.{from_be_bytes-to_be_bytes_4}

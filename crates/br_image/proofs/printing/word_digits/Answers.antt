@@ -1,6 +1,5 @@
-use Rattle.std.proofs.Common.{◌≡◌, ◌∙◌, ap, arith, Result, Ok, Err}
+use Rattle.std.proofs.Common.{◌∙◌, ap, arith, Result, Ok, Err}
 use Rattle.std.specs.Prelude.{IsOk, OnOk}
-use Rattle.std.specs.Int.{to_be_bytes, w32}
 use Rattle.hex.specs.Hex.{encode_lower}
 use Rattle.br_image.proofs.Digits.{encode_lower-word}
 use Rattle.br_image.proofs.printing.word_digits.Goals as goal

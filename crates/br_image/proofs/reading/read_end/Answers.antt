@@ -1,8 +1,5 @@
-use Rattle.std.proofs.Common.{◌≡◌, ◌+◌, ◌++◌, length, drop, refl}
+use Rattle.std.proofs.Common.{◌+◌, length, refl}
 use Rattle.std.proofs.lemmas.Result.{err_from_is_err_and}
-use Rattle.br_image.specs.declared.lines.Line.{Line}
-use Rattle.br_image.specs.Lines.{line_text}
-use Rattle.br_image.specs.Text.{line}
 use Rattle.br_image.proofs.Order.{words_line_fault, words_order_fault, end_misplaced, behind_end}
 use Rattle.br_image.proofs.reading.read_end.Goals as goal
 

@@ -1,11 +1,8 @@
-use Rattle.std.proofs.Common.{◌≡◌, ◌+◌, ◌++◌, ◌∷◌, List, length, drop, sym, subst}
+use Rattle.std.proofs.Common.{◌≡◌, List, sym, subst}
 use Rattle.std.specs.Prelude.{Any}
 use Rattle.std.proofs.lemmas.Result.{err_from_is_err_and}
 use Rattle.br_image.specs.declared.images.Entry.{Entry}
 use Rattle.br_image.specs.declared.lines.Line.TheVariants.{Function}
-use Rattle.br_image.specs.Reading.{EntriesRead}
-use Rattle.br_image.specs.Lines.{IsLine, line_text}
-use Rattle.br_image.specs.Text.{line}
 use Rattle.br_image.proofs.Order.{entries_line_fault, entries_order_fault, entry_misplaced, name_misplaced, entry_more}
 use Rattle.br_image.proofs.reading.read_head.Goals as goal
 

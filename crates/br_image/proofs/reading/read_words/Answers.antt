@@ -1,6 +1,5 @@
-use Rattle.std.proofs.Common.{◌≡◌, ◌+◌, ◌<◌, ◌++◌, ◌∷◌, [], List, ℕ, length, drop, refl, arith, subst, sym, ◌∙◌, ap, length-append}
+use Rattle.std.proofs.Common.{◌≡◌, ◌+◌, ◌<◌, ◌∷◌, [], List, ℕ, length, arith, subst, sym, ◌∙◌, ap, length-append}
 use Rattle.std.proofs.lemmas.Result.{err_from_is_err_and}
-use Rattle.br_image.specs.declared.lines.Line.TheVariants.{Word}
 use Rattle.br_image.specs.Reading.{WordsRead}
 use Rattle.br_image.proofs.Order.{words_line_fault, words_order_fault, word_misplaced, word_more}
 use Rattle.br_image.proofs.reading.read_words.Goals as goal

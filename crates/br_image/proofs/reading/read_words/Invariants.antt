@@ -1,4 +1,4 @@
-use Rattle.std.proofs.Common.{◌≡◌, ◌+◌, ◌-◌, length}
+use Rattle.std.proofs.Common.{◌≡◌, length}
 use Rattle.br_image.specs.Reading.{WordsRead}
 use Rattle.br_image.proofs.reading.read_words.Given as goal
 

@@ -1,0 +1,152 @@
+// The text of images.
+
+use crate::{Entry, Image, ImageFault, print, read};
+use br_base::{Name, NoMemory, OrMemory};
+use sqlite_items::Items;
+use std::alloc::Global;
+use std::test::Fail;
+
+/// An image of one function that stores into its own code.
+const TWO_WORDS: &str = "brimage 1\nentry main 0 0 0 0\ncode 2\n00000297\n0052a023\nend\n";
+
+fn two_words(alloc: Global, name: Name) -> Result<Image, NoMemory> {
+    let mut entries = Items::new(alloc);
+    entries.push(Entry {
+        name,
+        args: 0,
+        results: 0,
+        offset: 0,
+        need: 0,
+    })?;
+    let mut code = Items::new(alloc);
+    code.push(0x0000_0297)?;
+    code.push(0x0052_a023)?;
+    Ok(Image { entries, code })
+}
+
+#[test]
+fn an_image_is_printed(rt: HostRuntime) -> Result<(), Fail> {
+    let name = Name::from_bytes(Vec::from_slice(rt.alloc(), b"main")?).ok_or("no name")?;
+    let image = two_words(rt.alloc(), name)?;
+    let text = print(rt.alloc(), &image)?;
+    assert_eq!(rt; text.as_slice(), TWO_WORDS.as_bytes());
+    Ok(())
+}
+
+/// The fault of a text, if it has one.
+fn fault_of(alloc: Global, text: &[u8]) -> Result<Option<ImageFault>, NoMemory> {
+    if text.len() > 1_073_741_824 {
+        return Err(NoMemory);
+    }
+    match read(alloc, text) {
+        Ok(_) => Ok(None),
+        Err(OrMemory::Fault(fault)) => Ok(Some(fault)),
+        Err(OrMemory::Memory) => Err(NoMemory),
+    }
+}
+
+#[test]
+fn each_front_is_truncated(rt: HostRuntime) -> Result<(), Fail> {
+    let text = TWO_WORDS.as_bytes();
+    let mut line = 1u32;
+    for (n, byte) in text.iter().enumerate() {
+        assert_eq!(rt;
+            fault_of(rt.alloc(), &text[..n])?,
+            Some(ImageFault::Truncated(line))
+        );
+        if *byte == b'\n' {
+            line = line.wrapping_add(1);
+        }
+    }
+    assert_eq!(rt; fault_of(rt.alloc(), text)?, None);
+    Ok(())
+}
+
+#[test]
+fn lines_of_no_form(rt: HostRuntime) -> Result<(), Fail> {
+    let lines = [
+        "brimage 2",
+        "brimage 1 ",
+        "entry f 9 0 0 0",
+        "entry f 0 9 0 0",
+        "entry f 0 0 4194304 0",
+        "entry f 0 0 0 1048577",
+        "entry 1f 0 0 0 0",
+        "entry  0 0 0 0",
+        "entry f 00 0 0 0",
+        "entry f +0 0 0 0",
+        "entry f  0 0 0",
+        "entry f 0 0 0",
+        "entry f 0 0 0 0 ",
+        "code 262145",
+        "code 01",
+        "code ",
+        "0000029",
+        "000002970",
+        "0000029A",
+        "end\r",
+        "",
+    ];
+    for line in &lines {
+        let text = format!(in rt.alloc(); "brimage 1\n{line}\nend\n")?;
+        assert_eq!(rt;
+            fault_of(rt.alloc(), text.as_bytes())?,
+            Some(ImageFault::BadLine(2))
+        );
+    }
+    Ok(())
+}
+
+#[test]
+fn faults(rt: HostRuntime) -> Result<(), Fail> {
+    let cases = [
+        ("code 0\nend\n", None),
+        ("entry f 8 8 0 1048576\ncode 1\nffffffff\nend\n", None),
+        // A line that may not stand there, or follows the end, or names a function again.
+        ("brimage 1\n", Some(ImageFault::BadOrder(2))),
+        ("end\n", Some(ImageFault::BadOrder(2))),
+        ("00000000\n", Some(ImageFault::BadOrder(2))),
+        ("code 2\n00000297\nend\n", Some(ImageFault::BadOrder(4))),
+        ("code 0\n00000297\nend\n", Some(ImageFault::BadOrder(3))),
+        ("code 0\ncode 0\nend\n", Some(ImageFault::BadOrder(3))),
+        ("code 0\nend\n\n", Some(ImageFault::BadOrder(4))),
+        ("code 0\nend\nx", Some(ImageFault::BadOrder(4))),
+        (
+            "entry f 0 0 0 0\nentry f 0 0 0 0\n",
+            Some(ImageFault::BadOrder(3)),
+        ),
+        // The first of two faults, an offset last.
+        ("code 262144\n", Some(ImageFault::Truncated(3))),
+        ("end\nx\n", Some(ImageFault::BadOrder(2))),
+        ("x\nend\n", Some(ImageFault::BadLine(2))),
+        (
+            "entry f 0 0 4194303 0\ncode 0\n",
+            Some(ImageFault::Truncated(4)),
+        ),
+        (
+            "entry f 0 0 4 0\ncode 1\n00000073\nend\n",
+            Some(ImageFault::BadOffset(2)),
+        ),
+        (
+            "entry f 0 0 0 0\nentry g 0 0 2 0\ncode 1\n00000073\nend\n",
+            Some(ImageFault::BadOffset(3)),
+        ),
+        (
+            "entry f 0 0 0 0\ncode 0\nend\n",
+            Some(ImageFault::BadOffset(2)),
+        ),
+    ];
+    for (lines, fault) in &cases {
+        let text = format!(in rt.alloc(); "brimage 1\n{lines}")?;
+        assert_eq!(rt; fault_of(rt.alloc(), text.as_bytes())?, *fault);
+    }
+    assert_eq!(rt;
+        fault_of(rt.alloc(), b"code 0\n")?,
+        Some(ImageFault::BadOrder(1))
+    );
+    assert_eq!(rt;
+        fault_of(rt.alloc(), b"brimage 01\n")?,
+        Some(ImageFault::BadLine(1))
+    );
+    Ok(())
+}
