@@ -57,7 +57,7 @@ pub decimal-reads : (n : ℕ) → n < 2 ^ 32 → ReadsBack n
 decimal-reads n small =
     let numeral = decimal_is_IsNumeral n (omega (arith, small)) in
     let fits : (are_digits 10 (decimal n) && nat_lt (digits_value 10 (decimal n)) (2 ^ 32)) ≡ true =
-        and_from (are_digits 10 (decimal n)) _ (all-digits (decimal n) numeral.0.1) (lt-ltb (digits_value 10 (decimal n)) (2 ^ 32) (omega (arith, numeral.1, small))) in
+    and_from (are_digits 10 (decimal n)) _ (all-digits (decimal n) numeral.0.1) (lt-ltb (digits_value 10 (decimal n)) (2 ^ 32) (omega (arith, numeral.1, small))) in
     record {
       some = numeral.0.0;
       all = all-continue (decimal n) numeral.0.1;

@@ -1,6 +1,10 @@
 // Reading: from a text to its trees.
 
-ghost use Rattle.std.specs.Prelude.{◌≡◌, ℕ, ◌≤◌, List, [], ◌∷◌, length, IfOk, IfErr, OnOk, MatchOption};
+ghost use Rattle.std.specs.Prelude.{◌≡◌, ℕ, ◌≤◌, List, [], ◌∷◌, length, IsErr, IfOk, IfErr, OnOk, MatchOption, MatchResult};
+ghost use Rattle.br_base.specs.declared.failure.OrMemory.{OrMemory};
+ghost use Rattle.br_sexpr.specs.declared.tree.Tree.{Tree};
+ghost use Rattle.br_sexpr.specs.declared.tree.TextFault.{TextFault};
+ghost use Rattle.br_sexpr.specs.Canonical.{canonical, AreSameUpToOffsets, ArePrintable};
 ghost use Rattle.br_sexpr.specs.Reads.{Reads, HasFault, IfFault};
 ghost use Rattle.br_sexpr.specs.Token.{token_of_run, opens, closes};
 ghost use Rattle.br_sexpr.specs.Progress.{tokens_from, token_as, Answers, Refuses, IsWord};
@@ -30,12 +34,20 @@ struct Reader {
     items: Items<Tree>,
 }
 
-/// The trees of a text. A fault is the one of the lowest offset; `Unclosed` comes only where there
-/// is no other.
+/// The trees of a text. Blanks are space, tab, line feed and carriage return; a comment runs from
+/// `;` to the end of its line. A fault is the one of the lowest offset, and `Unclosed` comes only
+/// where there is no other. Want of memory may come at any text.
 pub fn read(alloc: Global, bytes: &[u8]) -> Result<Items<Tree>, OrMemory<TextFault>>
     requires { length bytes.now ≤ 1048576 }
     ensures trees { IfOk result (λ trees. Reads bytes.now trees) }
+    ensures readable { (trees : List Tree) → Reads bytes.now trees → IfErr result (λ e. e ≡ OrMemory.Memory) }
+
     ensures fault { IfErr result (λ e. IfFault e (λ f. HasFault bytes.now f)) }
+    ensures faulty { (f : TextFault) → HasFault bytes.now f → IsErr result }
+
+    // What was printed is read again.
+    ensures printed { (trees : List Tree) → ArePrintable trees → bytes.now ≡ canonical trees
+        → MatchResult result (λ got. AreSameUpToOffsets got trees) (λ e. e ≡ OrMemory.Memory) }
 {
     trees_of(alloc, bytes)
 }
