@@ -1,10 +1,10 @@
 -- The canonical text of trees is read as these trees, up to their offsets.
-use Rattle.std.proofs.Common.{◌≡◌, ℕ, ◌+◌, ◌^◌, ◌<◌, ◌≤◌, max, Bool, true, false, cond, ◌&&◌, List, [], ◌∷◌, ◌++◌, length, map, Option, Some, None, refl, sym, ap, ◌∙◌, subst, arith, append_assoc}
-use Rattle.std.specs.List.{list_all, flat_map}
+use Rattle.std.proofs.Common.{◌≡◌, ℕ, ◌+◌, ◌^◌, ◌<◌, Bool, true, List, [], ◌∷◌, ◌++◌, length, map, refl, sym, ap, ◌∙◌, subst, arith, append_assoc}
+use Rattle.std.specs.List.{list_all}
 use Rattle.std.specs.Fmt.{decimal}
 use Rattle.std.proofs.lemmas.Bool.{and_parts, cond-true, cond-false, ltb-true, false≢true}
 use Rattle.std.proofs.lemmas.Bool.Decides.{nat_tests}
-use Rattle.std.proofs.lemmas.List.{append-nil, map-append}
+use Rattle.std.proofs.lemmas.List.{append-nil}
 use Rattle.std.proofs.lemmas.List.Folds.{list_all-map}
 use Rattle.br_base.specs.Name.{is_name, starts_name, continues_name}
 use Rattle.br_sexpr.specs.declared.tree.Tree.{Tree}
@@ -14,7 +14,7 @@ use Rattle.br_sexpr.specs.declared.tree.Tree.TheVariants.{rolls-Name, rolls-Numb
 use Rattle.br_sexpr.specs.declared.tree.Tree.TheFolds.{fold-roll-Tree}
 use Rattle.br_sexpr.specs.Number.{number_of}
 use Rattle.br_sexpr.specs.Layout.{Piece, blank, opening, closing, run, spelling, is_blank, IsPiece, stops, EndsBefore}
-use Rattle.br_sexpr.specs.Token.{Token, opens, closes, names, numbers, kept, token_of_run, number_token, tokens_at, tokens_of}
+use Rattle.br_sexpr.specs.Token.{opens, closes, names, kept, number_token, tokens_at, tokens_of}
 use Rattle.br_sexpr.specs.Forest.{tree_tokens, forest_tokens, tree_height, forest_height}
 use Rattle.br_sexpr.specs.Canonical.{spaced, with_spaces, text_step, tree_text, canonical, bare_step, bare, sound_step, is_sound, AreSameUpToOffsets, ArePrintable}
 use Rattle.br_sexpr.specs.Reads.{Reads}

@@ -1,17 +1,16 @@
 -- What lies between tokens, and that their offsets ascend.
-use Rattle.std.proofs.Common.{◌≡◌, ℕ, ◌+◌, ◌<◌, ◌≤◌, Bool, true, List, [], ◌∷◌, ◌++◌, length, take, zero, suc, Option, Some, None, refl, sym, ap, ◌∙◌, subst, arith, append_assoc, ◌⊎◌, ⊎_elim, inl, inr, slice_get, nat_le}
-use Rattle.std.specs.List.{list_all}
+use Rattle.std.proofs.Common.{◌≡◌, ℕ, ◌+◌, ◌≤◌, Bool, true, List, [], ◌∷◌, ◌++◌, length, zero, suc, Option, Some, None, refl, sym, ap, ◌∙◌, subst, arith, append_assoc, ◌⊎◌, ⊎_elim, inl, inr, slice_get, nat_le}
 use Rattle.std.proofs.lemmas.Option.{none-some, same_Some, slice_get_within}
-use Rattle.std.proofs.lemmas.List.{length-append, append-nil}
+use Rattle.std.proofs.lemmas.List.{length-append}
 use Rattle.std.proofs.lemmas.Bool.{cases_Bool, cases_lt, cond_both, cond-true, cond-false}
 use Rattle.br_sexpr.specs.declared.tree.TextFault.{TextFault}
-use Rattle.br_sexpr.specs.declared.tree.TextFault.TheVariants.{BadByte, BadNumber, ExtraClose, Unclosed, TooDeep}
+use Rattle.br_sexpr.specs.declared.tree.TextFault.TheVariants.{BadByte, BadNumber, ExtraClose, TooDeep}
 use Rattle.br_base.specs.Name.{is_name, continues_name}
 use Rattle.br_sexpr.specs.Number.{number_of}
 use Rattle.br_sexpr.specs.Layout.{Piece, blank, comment, opening, closing, run, stray, spelling, stays_in_line, IsPiece, stops, EndsBefore, IsLayout}
 use Rattle.br_sexpr.specs.Token.{Token, opens, closes, names, numbers, misspells, strays, number_token, token_of_run, tokens_at, tokens_of}
-use Rattle.br_sexpr.specs.Between.{is_gap, IsGap, Alternates, offset_of}
-use Rattle.br_sexpr.specs.Fault.{open_behind, wrong_where, wrong_close, wrong_at, unclosed, IsFirstWrong, AllRightBefore, IsFault}
+use Rattle.br_sexpr.specs.Between.{is_gap, Alternates, offset_of}
+use Rattle.br_sexpr.specs.Fault.{wrong_where, wrong_close, wrong_at, IsFault}
 use Rattle.br_sexpr.specs.Reads.{HasFault}
 use Rattle.br_sexpr.proofs.Layouts.{layout-is}
 

@@ -1,11 +1,10 @@
 -- What the reader answers is what the text stands for.
-use Rattle.std.proofs.Common.{◌≡◌, ℕ, ◌≤◌, List, [], ◌∷◌, map, Result, Ok, Err, refl, sym, ap, ◌∙◌, subst}
+use Rattle.std.proofs.Common.{◌≡◌, ℕ, List, map, Result, Ok, Err, refl, sym, ap, ◌∙◌, subst}
 use Rattle.std.specs.Result.{IfOk, IfErr, IsErr, MatchResult}
 use Rattle.br_base.specs.declared.failure.OrMemory.{OrMemory}
 use Rattle.br_base.specs.declared.failure.OrMemory.TheVariants.{Memory, Fault}
 use Rattle.br_sexpr.specs.declared.tree.Tree.{Tree}
 use Rattle.br_sexpr.specs.declared.tree.TextFault.{TextFault}
-use Rattle.br_sexpr.specs.Token.{Token, kept, tokens_of}
 use Rattle.br_sexpr.specs.Canonical.{canonical, bare, AreSameUpToOffsets, ArePrintable}
 use Rattle.br_sexpr.specs.Reads.{Reads, HasFault, IfFault}
 use Rattle.br_sexpr.specs.Progress.{outside, pieces, tokens_from, Answers}

@@ -1,15 +1,14 @@
 -- What a reader's steps do to the tokens that it has seen, to the fault of what follows, and to the depth.
-use Rattle.std.proofs.Common.{◌≡◌, ℕ, ◌+◌, ◌<◌, ◌≤◌, max, Bool, true, false, cond, List, [], ◌∷◌, ◌++◌, length, map, Option, Some, None, nat_le, refl, sym, ap, ◌∙◌, subst, arith, append_assoc, leb}
-use Rattle.std.proofs.lemmas.List.{map-append, append-nil, length-map}
+use Rattle.std.proofs.Common.{◌≡◌, ℕ, ◌+◌, ◌<◌, true, false, List, [], ◌∷◌, ◌++◌, length, map, Some, None, refl, sym, ap, ◌∙◌, arith, append_assoc}
+use Rattle.std.proofs.lemmas.List.{map-append, length-map}
 use Rattle.br_sexpr.specs.declared.tree.Tree.{Tree}
-use Rattle.br_sexpr.specs.declared.tree.TextFault.{TextFault}
 use Rattle.br_sexpr.specs.declared.tree.Tree.TheViews as view
 use Rattle.br_sexpr.specs.declared.reading.OpenList.{OpenList}
 use Rattle.br_sexpr.specs.declared.reading.Reader.{Reader}
-use Rattle.br_sexpr.specs.Token.{Token, opens, closes, kept, token_of_run}
-use Rattle.br_sexpr.specs.Forest.{tree_tokens, forest_tokens, tree_height, forest_height}
+use Rattle.br_sexpr.specs.Token.{Token, opens, closes, token_of_run}
+use Rattle.br_sexpr.specs.Forest.{tree_tokens, forest_tokens, tree_height}
 use Rattle.br_sexpr.specs.Fault.{but_last, wrong_close}
-use Rattle.br_sexpr.specs.Progress.{or_else, fault_within, seen_in, seen, places, FitsIn, Fits, Took, IsWord}
+use Rattle.br_sexpr.specs.Progress.{or_else, fault_within, seen_in, seen, places, FitsIn, Took, IsWord}
 use Rattle.br_sexpr.specs.Number.{number_of}
 use Rattle.br_base.specs.Name.{is_name}
 use Rattle.br_sexpr.specs.declared.tree.TextFault.TheVariants.{BadNumber}

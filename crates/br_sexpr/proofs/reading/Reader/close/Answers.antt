@@ -1,4 +1,4 @@
-use Rattle.std.proofs.Common.{refl, arith}
+use Rattle.std.proofs.Common.{refl}
 use Rattle.br_sexpr.proofs.Steps.{took-close}
 use Rattle.br_sexpr.proofs.reading.Reader.close.Goals as goal
 
