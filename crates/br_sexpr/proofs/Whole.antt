@@ -18,7 +18,7 @@ pub record SoFar (r : Reader) (place : ℕ) (text : List ℕ) : Type 0 where
   pub fault : fault_within (places r) (tokens_from place (drop place text)) ≡ fault_within [] (tokens_from 0 text)
   pub fits : Fits r
 
-pub so_far-none : (r : Reader) (text : List ℕ) → r.open ≡ [] → r.items ≡ [] → SoFar r 0 text
+pub so_far-none : (r : Reader) (text : List ℕ) → r.lists ≡ [] → r.items ≡ [] → SoFar r 0 text
 so_far-none r text closed empty = record {
   tokens = rw (closed, empty) refl;
   fault = rw closed refl;

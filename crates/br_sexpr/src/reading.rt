@@ -30,7 +30,7 @@ struct OpenList {
 #[derive(Debug, Drop)]
 struct Reader {
     alloc: Global,
-    open: Items<OpenList>,
+    lists: Items<OpenList>,
     items: Items<Tree>,
 }
 
@@ -72,12 +72,12 @@ impl Reader {
     ghost use Rattle.br_sexpr.specs.Progress.{Took, Ends, places};
 
     fn new(alloc: Global) -> Reader
-        ensures closed { result.open ≡ [] }
+        ensures no_list { result.lists ≡ [] }
         ensures empty { result.items ≡ [] }
     {
         Reader {
             alloc,
-            open: Items::new(alloc),
+            lists: Items::new(alloc),
             items: Items::new(alloc),
         }
     }
@@ -89,30 +89,30 @@ impl Reader {
     {
         match kind {
             Kind::Gap => Ok(()),
-            Kind::Open => self.open(at),
-            Kind::Close => self.close(at),
+            Kind::Open => self.begin_list(at),
+            Kind::Close => self.end_list(at),
             Kind::Run => self.push(at, bytes),
             Kind::Stray => Err(OrMemory::Fault(TextFault::BadByte(at))),
         }
     }
 
-    fn open(&mut self, at: u32) -> Result<(), OrMemory<TextFault>>
+    fn begin_list(&mut self, at: u32) -> Result<(), OrMemory<TextFault>>
         ensures took { OnOk result (Took self.old self.new (opens at ∷ [])) }
         ensures refused { IfErr result (λ e. Refuses e (places self.old) (opens at ∷ [])) }
     {
-        if self.open.len() >= MOST_OPEN {
+        if self.lists.len() >= MOST_OPEN {
             return Err(OrMemory::Fault(TextFault::TooDeep(at)));
         }
         let before = std::mem::replace(&mut self.items, Items::new(self.alloc));
-        self.open.push(OpenList { at, before })?;
+        self.lists.push(OpenList { at, before })?;
         Ok(())
     }
 
-    fn close(&mut self, at: u32) -> Result<(), OrMemory<TextFault>>
+    fn end_list(&mut self, at: u32) -> Result<(), OrMemory<TextFault>>
         ensures took { OnOk result (Took self.old self.new (closes at ∷ [])) }
         ensures refused { IfErr result (λ e. Refuses e (places self.old) (closes at ∷ [])) }
     {
-        match self.open.pop() {
+        match self.lists.pop() {
             None => Err(OrMemory::Fault(TextFault::ExtraClose(at))),
             Some(list) => {
                 let items = std::mem::replace(&mut self.items, list.before);
@@ -132,9 +132,9 @@ impl Reader {
 
     /// The offset of the outermost list that is open.
     fn first_open(&self) -> Option<u32>
-        ensures { MatchOption result (self.now.open ≡ []) (λ at. unclosed (places self.now) ≡ Some (TextFault.Unclosed at)) }
+        ensures { MatchOption result (self.now.lists ≡ []) (λ at. unclosed (places self.now) ≡ Some (TextFault.Unclosed at)) }
     {
-        let first = self.open.as_slice().first()?;
+        let first = self.lists.as_slice().first()?;
         Some(first.at)
     }
 
