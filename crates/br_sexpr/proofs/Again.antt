@@ -1,10 +1,10 @@
 -- The canonical text of trees is read as these trees, up to their offsets.
-use Rattle.std.proofs.Common.{◌≡◌, ℕ, ◌+◌, ◌^◌, ◌<◌, ◌≤◌, max, Bool, true, false, cond, ◌&&◌, List, [], ◌∷◌, ◌++◌, length, map, Option, Some, None, refl, sym, ap, ◌∙◌, subst, arith, append_assoc}
-use Rattle.std.specs.List.{list_all, flat_map}
+use Rattle.std.proofs.Common.{◌≡◌, ℕ, ◌+◌, ◌^◌, ◌<◌, Bool, true, List, [], ◌∷◌, ◌++◌, length, map, refl, sym, ap, ◌∙◌, subst, arith, append_assoc}
+use Rattle.std.specs.List.{list_all}
 use Rattle.std.specs.Fmt.{decimal}
 use Rattle.std.proofs.lemmas.Bool.{and_parts, cond-true, cond-false, ltb-true, false≢true}
 use Rattle.std.proofs.lemmas.Bool.Decides.{nat_tests}
-use Rattle.std.proofs.lemmas.List.{append-nil, map-append}
+use Rattle.std.proofs.lemmas.List.{append-nil}
 use Rattle.std.proofs.lemmas.List.Folds.{list_all-map}
 use Rattle.br_base.specs.Name.{is_name, starts_name, continues_name}
 use Rattle.br_sexpr.specs.declared.tree.Tree.{Tree}
@@ -14,7 +14,7 @@ use Rattle.br_sexpr.specs.declared.tree.Tree.TheVariants.{rolls-Name, rolls-Numb
 use Rattle.br_sexpr.specs.declared.tree.Tree.TheFolds.{fold-roll-Tree}
 use Rattle.br_sexpr.specs.Number.{number_of}
 use Rattle.br_sexpr.specs.Layout.{Piece, blank, opening, closing, run, spelling, is_blank, IsPiece, stops, EndsBefore}
-use Rattle.br_sexpr.specs.Token.{Token, opens, closes, names, numbers, kept, token_of_run, number_token, tokens_at, tokens_of}
+use Rattle.br_sexpr.specs.Token.{opens, closes, names, kept, number_token, tokens_at, tokens_of}
 use Rattle.br_sexpr.specs.Forest.{tree_tokens, forest_tokens, tree_height, forest_height}
 use Rattle.br_sexpr.specs.Canonical.{spaced, with_spaces, text_step, tree_text, canonical, bare_step, bare, sound_step, is_sound, AreSameUpToOffsets, ArePrintable}
 use Rattle.br_sexpr.specs.Reads.{Reads}
@@ -90,10 +90,10 @@ name-again place text sound at rest stop =
       got = view.made-Name at text;
       end = at + length text;
       tokens =
-        ap (λ bs. map kept (tokens_from at (bs ++ rest))) (text-name place text)
-        ∙ ap (map kept) (tokens-piece (run text) at rest (name-continues text is) stop)
-        ∙ ap (λ t. kept t ∷ map kept (tokens_from (at + length text) rest)) (cond-true (is_name text) (names at text) (number_token at (number_of text)) is)
-        ∙ ap (λ ts. ts ++ map kept (tokens_from (at + length text) rest)) (sym (tokens-name at text));
+          ap (λ bs. map kept (tokens_from at (bs ++ rest))) (text-name place text)
+          ∙ ap (map kept) (tokens-piece (run text) at rest (name-continues text is) stop)
+          ∙ ap (λ t. kept t ∷ map kept (tokens_from (at + length text) rest)) (cond-true (is_name text) (names at text) (number_token at (number_of text)) is)
+          ∙ ap (λ ts. ts ++ map kept (tokens_from (at + length text) rest)) (sym (tokens-name at text));
       same = bare-name at text ∙ sym (bare-name place text);
       high = height-name at text ∙ sym (height-name place text);
     }
@@ -107,10 +107,10 @@ number-again place value sound at rest stop =
       got = view.made-Number at value;
       end = at + length text;
       tokens =
-        ap (λ bs. map kept (tokens_from at (bs ++ rest))) (text-number place value)
-        ∙ ap (map kept) (tokens-piece (run text) at rest (back.some, back.all) stop)
-        ∙ ap (λ t. kept t ∷ map kept (tokens_from (at + length text) rest)) (cond-false (is_name text) (names at text) (number_token at (number_of text)) back.other ∙ ap (number_token at) back.value)
-        ∙ ap (λ ts. ts ++ map kept (tokens_from (at + length text) rest)) (sym (tokens-number at value));
+          ap (λ bs. map kept (tokens_from at (bs ++ rest))) (text-number place value)
+          ∙ ap (map kept) (tokens-piece (run text) at rest (back.some, back.all) stop)
+          ∙ ap (λ t. kept t ∷ map kept (tokens_from (at + length text) rest)) (cond-false (is_name text) (names at text) (number_token at (number_of text)) back.other ∙ ap (number_token at) back.value)
+          ∙ ap (λ ts. ts ++ map kept (tokens_from (at + length text) rest)) (sym (tokens-number at value));
       same = bare-number at value ∙ sym (bare-number place value);
       high = height-number at value ∙ sym (height-number place value);
     }
@@ -125,9 +125,9 @@ again-more t ts text at rest w v = record {
   got = w.got ∷ v.got;
   end = v.end;
   tokens =
-    ap (λ bs. map kept (tokens_from at bs)) (append_assoc (tree_text t) text rest)
-    ∙ w.tokens ∙ ap (λ us. tree_tokens w.got ++ us) v.tokens
-    ∙ sym (append_assoc (tree_tokens w.got) (forest_tokens v.got) (map kept (tokens_from v.end rest)));
+      ap (λ bs. map kept (tokens_from at bs)) (append_assoc (tree_text t) text rest)
+      ∙ w.tokens ∙ ap (λ us. tree_tokens w.got ++ us) v.tokens
+      ∙ sym (append_assoc (tree_tokens w.got) (forest_tokens v.got) (map kept (tokens_from v.end rest)));
   same = ap (λ u. u ∷ map bare v.got) w.same ∙ ap (λ us. bare t ∷ us) v.same;
   high = omega (arith, w.high, v.high);
 }
@@ -171,13 +171,13 @@ list-again place es sound at rest stop =
       got = view.List at v.got;
       end = v.end + 1;
       tokens =
-        ap (λ bs. map kept (tokens_from at (bs ++ rest))) (text-list place items)
-        ∙ ap (λ bs. map kept (tokens_from at (40 ∷ bs))) (append_assoc text (41 ∷ []) rest)
-        ∙ ap (map kept) (tokens-piece opening at (text ++ 41 ∷ rest) tt tt)
-        ∙ ap (λ ts. opens at ∷ ts) v.tokens
-        ∙ ap (λ ts. opens at ∷ (forest_tokens v.got ++ map kept ts)) (tokens-piece closing v.end rest tt tt)
-        ∙ ap (λ ts. opens at ∷ ts) (sym (append_assoc (forest_tokens v.got) (closes 0 ∷ []) (map kept (tokens_from (v.end + 1) rest))))
-        ∙ ap (λ ts. ts ++ map kept (tokens_from (v.end + 1) rest)) (sym (tokens-list at v.got));
+          ap (λ bs. map kept (tokens_from at (bs ++ rest))) (text-list place items)
+          ∙ ap (λ bs. map kept (tokens_from at (40 ∷ bs))) (append_assoc text (41 ∷ []) rest)
+          ∙ ap (map kept) (tokens-piece opening at (text ++ 41 ∷ rest) tt tt)
+          ∙ ap (λ ts. opens at ∷ ts) v.tokens
+          ∙ ap (λ ts. opens at ∷ (forest_tokens v.got ++ map kept ts)) (tokens-piece closing v.end rest tt tt)
+          ∙ ap (λ ts. opens at ∷ ts) (sym (append_assoc (forest_tokens v.got) (closes 0 ∷ []) (map kept (tokens_from (v.end + 1) rest))))
+          ∙ ap (λ ts. ts ++ map kept (tokens_from (v.end + 1) rest)) (sym (tokens-list at v.got));
       same = bare-list at v.got ∙ ap (view.List 0) v.same ∙ sym (bare-list place items);
       high = height-list at v.got ∙ ap (λ n. n + 1) v.high ∙ sym (height-list place items);
     }
@@ -197,10 +197,13 @@ canonical-again (t ∷ ts) sound at =
 pub prints-read : (ts : List Tree) → ArePrintable ts → (got : List Tree) × Reads (canonical ts) got × AreSameUpToOffsets got ts
 unfolding tokens_from
 prints-read ts printable =
-    let v : AgainAll (canonical ts) ts 0 [] = canonical-again ts printable.sound 0 in
-    (v.got, record {
-      pieces = pieces outside (canonical ts);
-      layout = layout (canonical ts);
-      tokens = ap (λ bs. map kept (tokens_of 0 (pieces outside bs))) (sym (append-nil (canonical ts))) ∙ v.tokens ∙ append-nil (forest_tokens v.got);
-      shallow = omega (arith, v.high, printable.shallow);
-    }, v.same)
+    let v : AgainAll (canonical ts) ts 0 [] = canonical-again ts printable.sound 0 in (
+      v.got,
+      record {
+        pieces = pieces outside (canonical ts);
+        layout = layout (canonical ts);
+        tokens = ap (λ bs. map kept (tokens_of 0 (pieces outside bs))) (sym (append-nil (canonical ts))) ∙ v.tokens ∙ append-nil (forest_tokens v.got);
+        shallow = omega (arith, v.high, printable.shallow);
+      },
+      v.same,
+    )

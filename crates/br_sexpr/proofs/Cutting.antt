@@ -1,12 +1,12 @@
 -- The tokens of a text, piece by piece.
-use Rattle.std.proofs.Common.{◌≡◌, ℕ, ◌+◌, ◌<◌, ◌≤◌, Bool, true, false, cond, List, [], ◌∷◌, ◌++◌, length, take, drop, suc, refl, sym, ap, ◌∙◌, arith, ⊎_elim, subst}
+use Rattle.std.proofs.Common.{◌≡◌, ℕ, ◌+◌, Bool, true, false, cond, List, [], ◌∷◌, ◌++◌, length, take, drop, suc, refl, sym, ap, ◌∙◌, arith, ⊎_elim, subst}
 use Rattle.std.specs.List.{prefix_len, take_while}
 use Rattle.std.proofs.lemmas.Bool.{cases_Bool, cond-true, cond-false, eq-eqb, ne_eqb}
 use Rattle.std.proofs.lemmas.List.{length-take-le}
 use Rattle.std.proofs.lemmas.List.Sums.{prefix_len-le-length}
 use Rattle.br_base.specs.Name.{continues_name}
 use Rattle.br_sexpr.specs.Layout.{Piece, blank, comment, opening, closing, run, stray, spelling, is_blank, stays_in_line}
-use Rattle.br_sexpr.specs.Token.{Token, opens, closes, strays, token_of_run, tokens_at, tokens_of}
+use Rattle.br_sexpr.specs.Token.{opens, closes, strays, token_of_run, tokens_at, tokens_of}
 use Rattle.br_sexpr.specs.declared.piece.Kind.{Kind}
 use Rattle.br_sexpr.specs.Progress.{Within, outside, in_comment, in_run, goes_on, begun, within, pieces, tokens_from, token_as}
 

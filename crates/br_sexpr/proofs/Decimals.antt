@@ -1,14 +1,14 @@
 -- A number in decimal is read as that number.
-use Rattle.std.proofs.Common.{◌≡◌, ℕ, ◌+◌, ◌*◌, ◌/◌, ◌%◌, ◌^◌, ◌<◌, ◌≤◌, Bool, true, false, cond, not, ◌&&◌, ◌||◌, ◌==◌, nat_lt, List, [], ◌∷◌, ◌++◌, length, Option, Some, None, refl, sym, ap, ◌∙◌, subst, arith, ◌⊎◌, ⊎_elim, inl, inr}
+use Rattle.std.proofs.Common.{◌≡◌, ℕ, ◌+◌, ◌%◌, ◌^◌, ◌<◌, ◌≤◌, true, false, not, ◌&&◌, ◌==◌, nat_lt, List, [], ◌∷◌, ◌++◌, length, Some, refl, ap, ◌∙◌, arith, ⊎_elim}
 use Rattle.std.specs.Fmt.{decimal}
 use Rattle.std.specs.List.{list_all}
 use Rattle.std.specs.Char.{digit_value, is_digit}
 use Rattle.std.specs.Str.Parse.{AllDigits, digits_value}
 use Rattle.std.proofs.lemmas.Fmt.{decimal_is_IsNumeral, decimal_digit, decimal_by_steps}
-use Rattle.std.proofs.lemmas.Bool.{cases_lt, cases_eq, and_from, lt-ltb, ltb-true, ne_eqb, eq-eqb, cond-true, cond-false, or_right, not_from_false}
+use Rattle.std.proofs.lemmas.Bool.{cases_eq, and_from, lt-ltb, ne_eqb, cond-true, or_right, not_from_false}
 use Rattle.std.proofs.lemmas.Bool.Decides.{nat_tests}
 use Rattle.br_base.specs.Name.{is_name, starts_name, continues_name}
-use Rattle.br_sexpr.specs.Number.{are_digits, is_empty, leads_no_zero, word_in, number_of}
+use Rattle.br_sexpr.specs.Number.{are_digits, is_empty, leads_no_zero, number_of}
 
 -- which bytes are decimal digits
 digit-range : (c : ℕ) → digit_value c < 10 → (48 ≤ c) × (c < 58)
@@ -57,7 +57,7 @@ pub decimal-reads : (n : ℕ) → n < 2 ^ 32 → ReadsBack n
 decimal-reads n small =
     let numeral = decimal_is_IsNumeral n (omega (arith, small)) in
     let fits : (are_digits 10 (decimal n) && nat_lt (digits_value 10 (decimal n)) (2 ^ 32)) ≡ true =
-        and_from (are_digits 10 (decimal n)) _ (all-digits (decimal n) numeral.0.1) (lt-ltb (digits_value 10 (decimal n)) (2 ^ 32) (omega (arith, numeral.1, small))) in
+    and_from (are_digits 10 (decimal n)) _ (all-digits (decimal n) numeral.0.1) (lt-ltb (digits_value 10 (decimal n)) (2 ^ 32) (omega (arith, numeral.1, small))) in
     record {
       some = numeral.0.0;
       all = all-continue (decimal n) numeral.0.1;

@@ -1,9 +1,9 @@
 -- The fault that is found from token to token is the fault of the tokens.
-use Rattle.std.proofs.Common.{◌≡◌, ℕ, ◌+◌, ◌<◌, ◌≤◌, List, [], ◌∷◌, ◌++◌, length, take, zero, suc, Option, Some, None, refl, sym, ap, ◌∙◌, arith, ◌⊎◌, ⊎_elim, inl, inr, slice_get}
+use Rattle.std.proofs.Common.{◌≡◌, ℕ, ◌<◌, List, [], ◌∷◌, length, take, zero, suc, Option, Some, None, refl, sym, ap, ◌∙◌, arith, ◌⊎◌, ⊎_elim, inl, inr, slice_get}
 use Rattle.std.proofs.lemmas.Option.{same_Some, none-some}
 use Rattle.br_sexpr.specs.declared.tree.TextFault.{TextFault}
 use Rattle.br_sexpr.specs.Token.{Token, opens, closes, names, numbers, misspells, strays}
-use Rattle.br_sexpr.specs.Fault.{open_behind, wrong_where, unclosed, IsFirstWrong, AllRightBefore, IsFault}
+use Rattle.br_sexpr.specs.Fault.{open_behind, wrong_where, unclosed, IsFault}
 use Rattle.br_sexpr.specs.Progress.{or_else, fault_within}
 
 cases_fault : (o : Option TextFault) → (o ≡ None) ⊎ ((f : TextFault) × (o ≡ Some f))

@@ -1,13 +1,13 @@
 -- The equations of the folds over trees.
-use Rattle.std.proofs.Common.{◌≡◌, ℕ, ◌+◌, ◌≤◌, max, List, [], ◌∷◌, ◌++◌, map, refl, sym, ap, ◌∙◌, arith, append_assoc}
-use Rattle.std.proofs.lemmas.List.{map-append, append-nil}
+use Rattle.std.proofs.Common.{◌≡◌, ℕ, ◌+◌, max, List, [], ◌∷◌, ◌++◌, refl, sym, ap, ◌∙◌, arith, append_assoc}
+use Rattle.std.proofs.lemmas.List.{append-nil}
 use Rattle.br_sexpr.specs.declared.tree.Tree.{Tree}
 use Rattle.br_sexpr.specs.declared.tree.Tree.TheOpen as layer
 use Rattle.br_sexpr.specs.declared.tree.Tree.TheViews as view
 use Rattle.br_sexpr.specs.declared.tree.Tree.TheVariants.{rolls-Name, rolls-Number, rolls-List}
 use Rattle.br_sexpr.specs.declared.tree.Tree.TheFolds.{fold-roll-Tree}
 use Rattle.br_sexpr.specs.Token.{Token, opens, closes, names, numbers}
-use Rattle.br_sexpr.specs.Forest.{joined, token_step, tree_tokens, forest_tokens, largest, height_step, tree_height, forest_height}
+use Rattle.br_sexpr.specs.Forest.{joined, token_step, tree_tokens, forest_tokens, height_step, tree_height, forest_height}
 
 pub tokens-name : (at : ℕ) (text : List ℕ) → tree_tokens (view.made-Name at text) ≡ names at text ∷ []
 tokens-name at text = ap tree_tokens (sym (rolls-Name at text)) ∙ fold-roll-Tree (List Token) token_step (layer.Name at text)

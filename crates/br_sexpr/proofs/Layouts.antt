@@ -1,14 +1,11 @@
 -- A text has one layout, and it is the one that the reader finds.
-use Rattle.std.proofs.Common.{◌≡◌, ℕ, ◌+◌, ◌<◌, ◌≤◌, Bool, true, false, cond, not, ◌&&◌, ◌||◌, ◌==◌, List, [], ◌∷◌, ◌++◌, length, take, drop, zero, suc, refl, sym, ap, ◌∙◌, arith, ◌⊎◌, ⊎_elim, subst, inl, inr, append_assoc}
+use Rattle.std.proofs.Common.{◌≡◌, ℕ, ◌+◌, ◌≤◌, Bool, true, false, cond, ◌||◌, ◌==◌, List, [], ◌∷◌, ◌++◌, length, take, drop, zero, suc, refl, sym, ap, ◌∙◌, arith, ⊎_elim, subst}
 use Rattle.std.specs.List.{prefix_len, take_while, list_all}
-use Rattle.std.proofs.lemmas.Bool.{cases_Bool, cases_eq, cond-true, cond-false, eq-eqb, ne_eqb, and_parts, and_from, or_parts, or_cases, eqb-true, not-true, not_from_false, false_from_ne_true, false≢true}
-use Rattle.std.proofs.lemmas.Bool.Decides.{nat_tests}
+use Rattle.std.proofs.lemmas.Bool.{cases_Bool, cond-true, cond-false, ne_eqb, and_parts, or_parts, eqb-true, not-true, not_from_false, false≢true}
 use Rattle.std.proofs.lemmas.List.{take-append-drop, length-drop}
-use Rattle.std.proofs.lemmas.List.Sums.{prefix_len-le-length}
 use Rattle.br_base.specs.Name.{continues_name}
-use Rattle.br_sexpr.specs.Layout.{Piece, blank, comment, opening, closing, run, stray, spelling, is_blank, stays_in_line, is_stray, IsPiece, stops, EndsBefore, IsLayout}
-use Rattle.br_sexpr.specs.Token.{Token, tokens_at, tokens_of}
-use Rattle.br_sexpr.specs.Progress.{Within, outside, in_comment, in_run, goes_on, begun, within, pieces, tokens_from}
+use Rattle.br_sexpr.specs.Layout.{Piece, blank, comment, opening, closing, run, stray, spelling, is_blank, stays_in_line, IsPiece, stops, EndsBefore, IsLayout}
+use Rattle.br_sexpr.specs.Progress.{Within, outside, in_comment, in_run, goes_on, begun, within, pieces}
 use Rattle.br_sexpr.proofs.Cutting.{pieces-skip, none-behind}
 
 -- the bytes that pass a test, up to the first that does not

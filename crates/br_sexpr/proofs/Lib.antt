@@ -4,6 +4,7 @@ pub mod Decimals
 pub mod Digits
 pub mod Faults
 pub mod ForestLemmas
+pub mod Gaps
 pub mod Layouts
 pub mod OneAnswer
 pub mod Results

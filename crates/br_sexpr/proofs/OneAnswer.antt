@@ -1,5 +1,5 @@
 -- Each text reads as trees or has a fault, and never both.
-use Rattle.std.proofs.Common.{◌≡◌, ℕ, ◌+◌, ◌<◌, ◌≤◌, List, [], ◌∷◌, ◌++◌, length, map, Option, Some, None, refl, sym, ap, ◌∙◌, subst, arith, append_assoc, ◌⊎◌, ⊎_elim, inl, inr}
+use Rattle.std.proofs.Common.{◌≡◌, ℕ, ◌≤◌, List, [], ◌∷◌, ◌++◌, length, map, Option, Some, None, refl, sym, ap, ◌∙◌, subst, arith, append_assoc, ◌⊎◌, ⊎_elim, inl, inr}
 use Rattle.std.proofs.lemmas.Option.{none-some, same_Some}
 use Rattle.std.proofs.lemmas.List.{append-nil, map-append, length-map}
 use Rattle.std.proofs.lemmas.Bool.{cases_lt}
@@ -10,7 +10,7 @@ use Rattle.br_sexpr.specs.declared.tree.Tree.TheViews as view
 use Rattle.br_sexpr.specs.declared.reading.OpenList.{OpenList}
 use Rattle.br_sexpr.specs.Layout.{Piece, IsLayout}
 use Rattle.br_sexpr.specs.Token.{Token, opens, closes, names, numbers, misspells, strays, kept, tokens_of}
-use Rattle.br_sexpr.specs.Forest.{tree_tokens, forest_tokens, tree_height, forest_height}
+use Rattle.br_sexpr.specs.Forest.{tree_tokens, forest_tokens, forest_height}
 use Rattle.br_sexpr.specs.Reads.{Reads, HasFault}
 use Rattle.br_sexpr.specs.Progress.{outside, pieces, fault_within, seen_in, FitsIn}
 use Rattle.br_sexpr.proofs.ForestLemmas.{tokens-name, tokens-number, height-name, height-number}

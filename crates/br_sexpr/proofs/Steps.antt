@@ -1,15 +1,14 @@
 -- What a reader's steps do to the tokens that it has seen, to the fault of what follows, and to the depth.
-use Rattle.std.proofs.Common.{◌≡◌, ℕ, ◌+◌, ◌<◌, ◌≤◌, max, Bool, true, false, cond, List, [], ◌∷◌, ◌++◌, length, map, Option, Some, None, nat_le, refl, sym, ap, ◌∙◌, subst, arith, append_assoc, leb}
-use Rattle.std.proofs.lemmas.List.{map-append, append-nil, length-map}
+use Rattle.std.proofs.Common.{◌≡◌, ℕ, ◌+◌, ◌<◌, true, false, List, [], ◌∷◌, ◌++◌, length, map, Some, None, refl, sym, ap, ◌∙◌, arith, append_assoc}
+use Rattle.std.proofs.lemmas.List.{map-append, length-map}
 use Rattle.br_sexpr.specs.declared.tree.Tree.{Tree}
-use Rattle.br_sexpr.specs.declared.tree.TextFault.{TextFault}
 use Rattle.br_sexpr.specs.declared.tree.Tree.TheViews as view
 use Rattle.br_sexpr.specs.declared.reading.OpenList.{OpenList}
 use Rattle.br_sexpr.specs.declared.reading.Reader.{Reader}
-use Rattle.br_sexpr.specs.Token.{Token, opens, closes, kept, token_of_run}
-use Rattle.br_sexpr.specs.Forest.{tree_tokens, forest_tokens, tree_height, forest_height}
+use Rattle.br_sexpr.specs.Token.{Token, opens, closes, token_of_run}
+use Rattle.br_sexpr.specs.Forest.{tree_tokens, forest_tokens, tree_height}
 use Rattle.br_sexpr.specs.Fault.{but_last, wrong_close}
-use Rattle.br_sexpr.specs.Progress.{or_else, fault_within, seen_in, seen, places, FitsIn, Fits, Took, IsWord}
+use Rattle.br_sexpr.specs.Progress.{or_else, fault_within, seen_in, seen, places, FitsIn, Took, IsWord}
 use Rattle.br_sexpr.specs.Number.{number_of}
 use Rattle.br_base.specs.Name.{is_name}
 use Rattle.br_sexpr.specs.declared.tree.TextFault.TheVariants.{BadNumber}
@@ -55,25 +54,25 @@ fault-open xs at rest room = grind (arith)
 pub fault-close : (xs : List ℕ) (x at : ℕ) (rest : List Token) → fault_within (xs ++ x ∷ []) (closes at ∷ rest) ≡ fault_within xs rest
 fault-close xs x at rest = ap (λ o. or_else o (fault_within (but_last (xs ++ x ∷ [])) rest)) (wrong_close-push xs x at) ∙ ap (λ ys. fault_within ys rest) (but_last-push xs x)
 
-pub took-open : (old new : Reader) (at : ℕ) → new.open ≡ old.open ++ (record { at = at; before = old.items }) ∷ [] → new.items ≡ [] → length old.open < 256 → Took old new (opens at ∷ [])
+pub took-open : (old new : Reader) (at : ℕ) → new.lists ≡ old.lists ++ (record { at = at; before = old.items }) ∷ [] → new.items ≡ [] → length old.lists < 256 → Took old new (opens at ∷ [])
 took-open old new at pushed none room = record {
-  tokens = rw (pushed, none) (seen-open old.open (record { at = at; before = old.items }) []);
+  tokens = rw (pushed, none) (seen-open old.lists (record { at = at; before = old.items }) []);
   fault = λ rest. rw (pushed, map-append) (fault-open (places old) at rest (rw length-map room));
-  fits = λ fits. rw (pushed, none) (FitsIn-open 0 old.open (record { at = at; before = old.items }) fits (omega arith));
+  fits = λ fits. rw (pushed, none) (FitsIn-open 0 old.lists (record { at = at; before = old.items }) fits (omega arith));
 }
 
-pub took-close : (old new : Reader) (os : List OpenList) (o : OpenList) (place : ℕ) → old.open ≡ os ++ o ∷ [] → new.open ≡ os → new.items ≡ o.before ++ view.List o.at old.items ∷ [] → Took old new (closes place ∷ [])
+pub took-close : (old new : Reader) (os : List OpenList) (o : OpenList) (place : ℕ) → old.lists ≡ os ++ o ∷ [] → new.lists ≡ os → new.items ≡ o.before ++ view.List o.at old.items ∷ [] → Took old new (closes place ∷ [])
 took-close old new os o place was is more = record {
   tokens = rw (is, more, was) (seen-close os o old.items);
   fault = λ rest. rw (is, was, map-append) (fault-close (map (λ (p : OpenList). p.at) os) o.at place rest);
   fits = λ fits. rw (is, more) (FitsIn-close 0 os o old.items (rw was at fits));
 }
 
-pub took-push : (old new : Reader) (tree : Tree) (t : Token) → new.open ≡ old.open → new.items ≡ old.items ++ tree ∷ [] → IsWord tree t → Took old new (t ∷ [])
+pub took-push : (old new : Reader) (tree : Tree) (t : Token) → new.lists ≡ old.lists → new.items ≡ old.items ++ tree ∷ [] → IsWord tree t → Took old new (t ∷ [])
 took-push old new tree t same more word = record {
-  tokens = rw (same, more) (seen-push old.open old.items tree ∙ ap (λ ts. seen old ++ ts) word.token);
+  tokens = rw (same, more) (seen-push old.lists old.items tree ∙ ap (λ ts. seen old ++ ts) word.token);
   fault = λ rest. rw same (word.passes (places old) rest);
-  fits = λ fits. rw (same, more) (FitsIn-push 0 old.open old.items tree word.flat fits);
+  fits = λ fits. rw (same, more) (FitsIn-push 0 old.lists old.items tree word.flat fits);
 }
 
 pub word-name : (at : ℕ) (run : List ℕ) → is_name run ≡ true → IsWord (view.made-Name at run) (token_of_run at run)

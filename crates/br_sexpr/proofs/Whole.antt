@@ -1,5 +1,5 @@
 -- A reader over a whole text.
-use Rattle.std.proofs.Common.{◌≡◌, ℕ, ◌+◌, ◌-◌, ◌<◌, ◌≤◌, List, [], ◌∷◌, ◌++◌, length, take, drop, map, Option, Some, None, Result, Ok, Err, refl, sym, ap, ◌∙◌, subst, arith, append_assoc}
+use Rattle.std.proofs.Common.{◌≡◌, ℕ, ◌+◌, ◌≤◌, List, [], ◌++◌, length, take, drop, map, Result, Ok, Err, refl, sym, ap, ◌∙◌, subst, arith, append_assoc}
 use Rattle.std.proofs.lemmas.List.{map-append, append-nil, drop-drop, drop_all}
 use Rattle.br_base.specs.declared.failure.OrMemory.{OrMemory}
 use Rattle.br_base.specs.declared.failure.OrMemory.TheVariants.{Memory, Fault}
@@ -7,10 +7,10 @@ use Rattle.br_sexpr.specs.declared.tree.Tree.{Tree}
 use Rattle.br_sexpr.specs.declared.tree.TextFault.{TextFault}
 use Rattle.br_sexpr.specs.declared.piece.Kind.{Kind}
 use Rattle.br_sexpr.specs.declared.reading.Reader.{Reader}
-use Rattle.br_sexpr.specs.Token.{Token, kept}
+use Rattle.br_sexpr.specs.Token.{kept}
 use Rattle.br_sexpr.specs.Fault.{unclosed}
-use Rattle.br_sexpr.specs.Forest.{forest_tokens, forest_height}
-use Rattle.br_sexpr.specs.Progress.{fault_within, tokens_from, token_as, seen_in, seen, places, FitsIn, Fits, Took, Refuses, Ends, IsForest, Answers}
+use Rattle.br_sexpr.specs.Forest.{forest_tokens}
+use Rattle.br_sexpr.specs.Progress.{fault_within, tokens_from, token_as, seen_in, seen, places, FitsIn, Fits, Took, Refuses, Ends, Answers}
 
 -- what is known of a reader that has come to an offset of a text
 pub record SoFar (r : Reader) (place : ℕ) (text : List ℕ) : Type 0 where
@@ -18,7 +18,7 @@ pub record SoFar (r : Reader) (place : ℕ) (text : List ℕ) : Type 0 where
   pub fault : fault_within (places r) (tokens_from place (drop place text)) ≡ fault_within [] (tokens_from 0 text)
   pub fits : Fits r
 
-pub so_far-none : (r : Reader) (text : List ℕ) → r.open ≡ [] → r.items ≡ [] → SoFar r 0 text
+pub so_far-none : (r : Reader) (text : List ℕ) → r.lists ≡ [] → r.items ≡ [] → SoFar r 0 text
 so_far-none r text closed empty = record {
   tokens = rw (closed, empty) refl;
   fault = rw closed refl;

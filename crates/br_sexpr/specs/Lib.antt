@@ -1,3 +1,4 @@
+pub mod Between
 pub mod Canonical
 pub mod Fault
 pub mod Forest

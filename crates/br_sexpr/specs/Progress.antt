@@ -12,8 +12,8 @@ use Rattle.br_sexpr.specs.declared.piece.Kind.TheVariants as kind
 use Rattle.br_sexpr.specs.declared.reading.OpenList.{OpenList}
 use Rattle.br_sexpr.specs.declared.reading.Reader.{Reader}
 use Rattle.br_sexpr.specs.Layout.{Piece, blank, comment, opening, closing, run, stray, is_blank, stays_in_line}
-use Rattle.br_sexpr.specs.Token.{Token, opens, closes, names, numbers, misspells, strays, token_of_run, tokens_of, kept}
-use Rattle.br_sexpr.specs.Fault.{but_last, open_behind, wrong_where, unclosed}
+use Rattle.br_sexpr.specs.Token.{Token, opens, closes, strays, token_of_run, tokens_of, kept}
+use Rattle.br_sexpr.specs.Fault.{open_behind, wrong_where, unclosed}
 use Rattle.br_sexpr.specs.Forest.{tree_tokens, forest_tokens, tree_height, forest_height}
 
 -- the piece that the byte before has begun, if it may go on
@@ -67,10 +67,10 @@ seen_in [] items = forest_tokens items
 seen_in (o ∷ os) items = forest_tokens o.before ++ opens o.at ∷ seen_in os items
 
 abbrev pub seen : Reader → List Token
-seen r = seen_in r.open r.items
+seen r = seen_in r.lists r.items
 
 abbrev pub places : Reader → List ℕ
-places r = map (λ o. o.at) r.open
+places r = map (λ o. o.at) r.lists
 
 -- no list stands in 256 others, where n lists are open around these
 abbrev pub FitsIn : ℕ → List OpenList → List Tree → Type 0
@@ -78,7 +78,7 @@ FitsIn n [] items = n + forest_height items ≤ 256
 FitsIn n (o ∷ os) items = (n + forest_height o.before ≤ 256) × FitsIn (n + 1) os items
 
 abbrev pub Fits : Reader → Type 0
-Fits r = FitsIn 0 r.open r.items
+Fits r = FitsIn 0 r.lists r.items
 
 -- the fault that something wrong is, or else what follows
 abbrev pub or_else : Option TextFault → Option TextFault → Option TextFault
@@ -103,7 +103,7 @@ Refuses (Fault f) xs ts = (rest : List Token) → fault_within xs (ts ++ rest) �
 
 -- at the end of a text: the trees, where no list is open, or that a list is
 abbrev pub Ends : Reader → Result (List Tree) (OrMemory TextFault) → Type 0
-Ends r (Ok trees) = (r.open ≡ []) × (trees ≡ r.items)
+Ends r (Ok trees) = (r.lists ≡ []) × (trees ≡ r.items)
 Ends r (Err e) = (f : TextFault) × (e ≡ Fault f) × (unclosed (places r) ≡ Some f)
 
 -- the tree is this token alone

@@ -5,7 +5,7 @@ use Rattle.br_base.specs.declared.failure.OrMemory.TheVariants.{Memory, Fault}
 use Rattle.br_sexpr.specs.declared.tree.Tree.{Tree}
 use Rattle.br_sexpr.specs.declared.tree.TextFault.{TextFault}
 use Rattle.br_sexpr.specs.Layout.{Piece, IsLayout}
-use Rattle.br_sexpr.specs.Token.{Token, kept, tokens_of}
+use Rattle.br_sexpr.specs.Token.{kept, tokens_of}
 use Rattle.br_sexpr.specs.Fault.{IsFault}
 use Rattle.br_sexpr.specs.Forest.{forest_tokens, forest_height}
 

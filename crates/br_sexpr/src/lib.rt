@@ -8,7 +8,7 @@ mod printing;
 mod reading;
 mod tree;
 
-pub use laws::one_answer;
+pub use laws::{lowest_offset, one_answer, one_layout, only_gaps_between};
 pub use printing::print;
 pub use reading::read;
 pub use tree::{TextFault, Tree};

@@ -1,6 +1,10 @@
 // Reading: from a text to its trees.
 
-ghost use Rattle.std.specs.Prelude.{◌≡◌, ℕ, ◌≤◌, List, [], ◌∷◌, length, IfOk, IfErr, OnOk, MatchOption};
+ghost use Rattle.std.specs.Prelude.{◌≡◌, ℕ, ◌≤◌, List, [], ◌∷◌, length, IsErr, IfOk, IfErr, OnOk, MatchOption, MatchResult};
+ghost use Rattle.br_base.specs.declared.failure.OrMemory.{OrMemory};
+ghost use Rattle.br_sexpr.specs.declared.tree.Tree.{Tree};
+ghost use Rattle.br_sexpr.specs.declared.tree.TextFault.{TextFault};
+ghost use Rattle.br_sexpr.specs.Canonical.{canonical, AreSameUpToOffsets, ArePrintable};
 ghost use Rattle.br_sexpr.specs.Reads.{Reads, HasFault, IfFault};
 ghost use Rattle.br_sexpr.specs.Token.{token_of_run, opens, closes};
 ghost use Rattle.br_sexpr.specs.Progress.{tokens_from, token_as, Answers, Refuses, IsWord};
@@ -26,16 +30,24 @@ struct OpenList {
 #[derive(Debug, Drop)]
 struct Reader {
     alloc: Global,
-    open: Items<OpenList>,
+    lists: Items<OpenList>,
     items: Items<Tree>,
 }
 
-/// The trees of a text. A fault is the one of the lowest offset; `Unclosed` comes only where there
-/// is no other.
+/// The trees of a text. Blanks are space, tab, line feed and carriage return; a comment runs from
+/// `;` to the end of its line. A fault is the one of the lowest offset, and `Unclosed` comes only
+/// where there is no other. Want of memory may come at any text.
 pub fn read(alloc: Global, bytes: &[u8]) -> Result<Items<Tree>, OrMemory<TextFault>>
     requires { length bytes.now ≤ 1048576 }
     ensures trees { IfOk result (λ trees. Reads bytes.now trees) }
+    ensures readable { (trees : List Tree) → Reads bytes.now trees → IfErr result (λ e. e ≡ OrMemory.Memory) }
+
     ensures fault { IfErr result (λ e. IfFault e (λ f. HasFault bytes.now f)) }
+    ensures faulty { (f : TextFault) → HasFault bytes.now f → IsErr result }
+
+    // What was printed is read again.
+    ensures printed { (trees : List Tree) → ArePrintable trees → bytes.now ≡ canonical trees
+        → MatchResult result (λ got. AreSameUpToOffsets got trees) (λ e. e ≡ OrMemory.Memory) }
 {
     trees_of(alloc, bytes)
 }
@@ -60,12 +72,12 @@ impl Reader {
     ghost use Rattle.br_sexpr.specs.Progress.{Took, Ends, places};
 
     fn new(alloc: Global) -> Reader
-        ensures closed { result.open ≡ [] }
+        ensures no_list { result.lists ≡ [] }
         ensures empty { result.items ≡ [] }
     {
         Reader {
             alloc,
-            open: Items::new(alloc),
+            lists: Items::new(alloc),
             items: Items::new(alloc),
         }
     }
@@ -77,30 +89,30 @@ impl Reader {
     {
         match kind {
             Kind::Gap => Ok(()),
-            Kind::Open => self.open(at),
-            Kind::Close => self.close(at),
+            Kind::Open => self.begin_list(at),
+            Kind::Close => self.end_list(at),
             Kind::Run => self.push(at, bytes),
             Kind::Stray => Err(OrMemory::Fault(TextFault::BadByte(at))),
         }
     }
 
-    fn open(&mut self, at: u32) -> Result<(), OrMemory<TextFault>>
+    fn begin_list(&mut self, at: u32) -> Result<(), OrMemory<TextFault>>
         ensures took { OnOk result (Took self.old self.new (opens at ∷ [])) }
         ensures refused { IfErr result (λ e. Refuses e (places self.old) (opens at ∷ [])) }
     {
-        if self.open.len() >= MOST_OPEN {
+        if self.lists.len() >= MOST_OPEN {
             return Err(OrMemory::Fault(TextFault::TooDeep(at)));
         }
         let before = std::mem::replace(&mut self.items, Items::new(self.alloc));
-        self.open.push(OpenList { at, before })?;
+        self.lists.push(OpenList { at, before })?;
         Ok(())
     }
 
-    fn close(&mut self, at: u32) -> Result<(), OrMemory<TextFault>>
+    fn end_list(&mut self, at: u32) -> Result<(), OrMemory<TextFault>>
         ensures took { OnOk result (Took self.old self.new (closes at ∷ [])) }
         ensures refused { IfErr result (λ e. Refuses e (places self.old) (closes at ∷ [])) }
     {
-        match self.open.pop() {
+        match self.lists.pop() {
             None => Err(OrMemory::Fault(TextFault::ExtraClose(at))),
             Some(list) => {
                 let items = std::mem::replace(&mut self.items, list.before);
@@ -120,9 +132,9 @@ impl Reader {
 
     /// The offset of the outermost list that is open.
     fn first_open(&self) -> Option<u32>
-        ensures { MatchOption result (self.now.open ≡ []) (λ at. unclosed (places self.now) ≡ Some (TextFault.Unclosed at)) }
+        ensures { MatchOption result (self.now.lists ≡ []) (λ at. unclosed (places self.now) ≡ Some (TextFault.Unclosed at)) }
     {
-        let first = self.open.as_slice().first()?;
+        let first = self.lists.as_slice().first()?;
         Some(first.at)
     }
 
@@ -153,21 +165,23 @@ fn word(alloc: Global, at: u32, run: &[u8]) -> Result<Tree, OrMemory<TextFault>>
 #[cfg(test)]
 mod tests {
     use super::*;
+    use std::alloc::AllocError;
     use std::test::Fail;
 
-    fn fault(alloc: Global, text: &[u8]) -> Option<TextFault>
+    // What is wrong with a text, and None where it reads.
+    fn fault(alloc: Global, text: &[u8]) -> Result<Option<TextFault>, AllocError>
         requires { length text.now ≤ 1048576 }
     {
         match read(alloc, text) {
-            Err(OrMemory::Fault(fault)) => Some(fault),
-            _ => None,
+            Ok(_) => Ok(None),
+            Err(OrMemory::Fault(fault)) => Ok(Some(fault)),
+            Err(OrMemory::Memory) => Err(AllocError),
         }
     }
 
     #[test]
     fn faults(rt: HostRuntime) -> Result<(), Fail> {
-        let alloc = rt.alloc();
-        let table: [(&str, Option<TextFault>); 26] = [
+        let table: [(&str, Option<TextFault>); 30] = [
             ("", None),
             ("(fn main () ()", Some(TextFault::Unclosed(0))),
             ("(fn main () (r) (set r 4294967295))", None),
@@ -180,8 +194,9 @@ mod tests {
             ("(a))(", Some(TextFault::ExtraClose(3))),
             ("(a (b) (c", Some(TextFault::Unclosed(0))),
             ("(a) (b", Some(TextFault::Unclosed(4))),
-            ("( & 00 )) ", Some(TextFault::BadByte(2))),
+            ("(( & 00 )))", Some(TextFault::BadByte(3))),
             ("( 00 & )) ", Some(TextFault::BadNumber(2))),
+            ("a ) 00 (", Some(TextFault::ExtraClose(2))),
             ("0", None),
             ("00", Some(TextFault::BadNumber(0))),
             ("01", Some(TextFault::BadNumber(0))),
@@ -189,10 +204,13 @@ mod tests {
             ("1_", Some(TextFault::BadNumber(0))),
             ("0x", Some(TextFault::BadNumber(0))),
             ("0xFFFFffff", None),
+            ("0x00000000", None),
             ("0x123456789", Some(TextFault::BadNumber(0))),
             ("0x012345678", Some(TextFault::BadNumber(0))),
             ("0xg", Some(TextFault::BadNumber(0))),
             ("0X1", Some(TextFault::BadNumber(0))),
+            ("4294967295", None),
+            ("4294967296", Some(TextFault::BadNumber(0))),
             ("a;)&\r 00", None),
             ("a;)\n &", Some(TextFault::BadByte(5))),
             ("-1", Some(TextFault::BadByte(0))),
@@ -200,9 +218,54 @@ mod tests {
         ];
         for (text, answer) in table {
             assert!(rt; text.len() < 100);
-            let found = fault(alloc, text.as_bytes());
+            let found = fault(rt.alloc(), text.as_bytes())?;
             assert_eq!(rt; found, answer, "{text:?}");
         }
+        Ok(())
+    }
+
+    #[test]
+    fn prefixes(rt: HostRuntime) -> Result<(), Fail> {
+        let text = b"(fn main () () (interact () MMIOWRITE 0x1001200C (add 5 7)))";
+        for len in 1..text.len() {
+            let found = fault(rt.alloc(), &text[..len])?;
+            let answer = if len == 40 {
+                TextFault::BadNumber(38)
+            } else {
+                TextFault::Unclosed(0)
+            };
+            assert_eq!(rt; found, Some(answer), "{len}");
+        }
+        Ok(())
+    }
+
+    #[test]
+    fn depths(rt: HostRuntime) -> Result<(), Fail> {
+        let mut text = vec![in rt.alloc(); b'('; 257]?;
+        assert_eq!(rt;
+            fault(rt.alloc(), &text[..256])?,
+            Some(TextFault::Unclosed(0))
+        );
+        assert_eq!(rt; fault(rt.alloc(), &text)?, Some(TextFault::TooDeep(256)));
+        text.resize(514, b')')?;
+        assert!(rt; text.len() == 514);
+        assert_eq!(rt; fault(rt.alloc(), &text[1..513])?, None);
+        assert_eq!(rt; fault(rt.alloc(), &text)?, Some(TextFault::TooDeep(256)));
+        Ok(())
+    }
+
+    #[test]
+    fn offsets(rt: HostRuntime) -> Result<(), Fail> {
+        let Ok(trees) = read(rt.alloc(), b" (ab\n7)") else {
+            return Err("not read".into());
+        };
+        let [Tree::List { at: 1, items }] = trees.as_slice() else {
+            return Err("no list".into());
+        };
+        let [Tree::Name { at: 2, text }, Tree::Number { at: 5, value: 7 }] = items.as_slice() else {
+            return Err("other items".into());
+        };
+        assert_eq!(rt; text.bytes(), b"ab".as_slice());
         Ok(())
     }
 }

@@ -1,4 +1,3 @@
-use Rattle.std.proofs.Common.{◌≡◌, ℕ, ◌+◌, suc, subst, sym, arith, ◌∙◌}
 use Rattle.br_sexpr.proofs.Cutting.{cut-whole}
 use Rattle.br_sexpr.proofs.piece.first_piece.Goals as goal
 

@@ -5,7 +5,7 @@ use Rattle.br_sexpr.proofs.Whole.{so_far-none, so_far-more, so_far-refused, so_f
 use Rattle.br_sexpr.proofs.reading.trees_of.Goals as goal
 
 pub loop-at-init : goal.loop-at-init
-loop-at-init c = (omega arith, so_far-none _ _ c.new-reader.ensures.closed c.new-reader.ensures.empty)
+loop-at-init c = (omega arith, so_far-none _ _ c.new-reader.ensures.no_list c.new-reader.ensures.empty)
 
 pub loop-at-preserved : goal.loop-at-preserved
 loop-at-preserved c =
