@@ -9,6 +9,8 @@ mod part;
 mod program;
 mod shaped;
 mod word;
+mod write_cmd;
+mod write_expr;
 
 pub use fault::ShapeFault;
 pub use function::from_tree;

@@ -1,6 +1,7 @@
 // The words that stand first in a list.
 
 ghost use Rattle.std.specs.Prelude.{◌≡◌};
+ghost use Rattle.br_base.specs.Name.{IsName};
 ghost use Rattle.br_syntax.specs.Denotes.{offset_of, word_of};
 ghost use Rattle.br_syntax.specs.Word.{expr_word, cmd_word};
 
@@ -97,5 +98,65 @@ pub fn cmd_word(word: &[u8]) -> Option<CmdWord>
         b"call" => Some(CmdWord::Call),
         b"interact" => Some(CmdWord::Interact),
         _ => None,
+    }
+}
+
+/// The word of a load.
+pub fn load_word(size: Size) -> &'static [u8]
+    ensures meaning { expr_word result.now ≡ Some (ExprWord.Load size) }
+    ensures name { IsName result.now }
+{
+    match size {
+        Size::One => b"load1",
+        Size::Two => b"load2",
+        Size::Four => b"load4",
+    }
+}
+
+/// The word of a read of a table.
+pub fn table_word(size: Size) -> &'static [u8]
+    ensures meaning { expr_word result.now ≡ Some (ExprWord.Table size) }
+    ensures name { IsName result.now }
+{
+    match size {
+        Size::One => b"table1",
+        Size::Two => b"table2",
+        Size::Four => b"table4",
+    }
+}
+
+/// The word of an operation.
+pub fn operation_word(operation: BinOp) -> &'static [u8]
+    ensures meaning { expr_word result.now ≡ Some (ExprWord.Op operation) }
+    ensures name { IsName result.now }
+{
+    match operation {
+        BinOp::Add => b"add",
+        BinOp::Sub => b"sub",
+        BinOp::Mul => b"mul",
+        BinOp::Mulhuu => b"mulhuu",
+        BinOp::Divu => b"divu",
+        BinOp::Remu => b"remu",
+        BinOp::And => b"and",
+        BinOp::Or => b"or",
+        BinOp::Xor => b"xor",
+        BinOp::Sru => b"sru",
+        BinOp::Slu => b"slu",
+        BinOp::Srs => b"srs",
+        BinOp::Lts => b"lts",
+        BinOp::Ltu => b"ltu",
+        BinOp::Eq => b"eq",
+    }
+}
+
+/// The word of a store.
+pub fn store_word(size: Size) -> &'static [u8]
+    ensures meaning { cmd_word result.now ≡ Some (CmdWord.Store size) }
+    ensures name { IsName result.now }
+{
+    match size {
+        Size::One => b"store1",
+        Size::Two => b"store2",
+        Size::Four => b"store4",
     }
 }
