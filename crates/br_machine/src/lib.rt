@@ -7,6 +7,7 @@ mod laws;
 mod layout;
 mod machine;
 mod memory;
+mod step;
 mod stepped;
 mod traps;
 
