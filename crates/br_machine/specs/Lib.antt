@@ -6,3 +6,4 @@ pub mod Effects
 pub mod Step
 pub mod Steps
 pub mod Start
+pub mod Trace

@@ -9,6 +9,7 @@ mod machine;
 mod memory;
 mod step;
 mod stepped;
+mod trace;
 mod traps;
 
 pub use laws::{
@@ -16,3 +17,4 @@ pub use laws::{
 };
 pub use machine::Machine;
 pub use stepped::{Stepped, Trap};
+pub use trace::Trace;
