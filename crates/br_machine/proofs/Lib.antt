@@ -4,3 +4,4 @@ pub mod Straight
 pub mod Begins
 pub mod Steps
 pub mod Words
+pub mod Moments

@@ -7,3 +7,4 @@ pub mod Step
 pub mod Steps
 pub mod Start
 pub mod Trace
+pub mod Run

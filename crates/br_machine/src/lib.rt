@@ -7,6 +7,7 @@ mod laws;
 mod layout;
 mod machine;
 mod memory;
+mod running;
 mod step;
 mod stepped;
 mod trace;
@@ -16,5 +17,6 @@ pub use laws::{
     register_0_reads_0, steps_keep_the_code, steps_make_machines, steps_that_end_change_nothing,
 };
 pub use machine::Machine;
+pub use running::{End, run};
 pub use stepped::{Stepped, Trap};
 pub use trace::Trace;
