@@ -8,3 +8,4 @@ pub mod Steps
 pub mod Start
 pub mod Trace
 pub mod Run
+pub mod Junk

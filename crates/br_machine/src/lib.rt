@@ -8,8 +8,11 @@ mod layout;
 mod machine;
 mod memory;
 mod running;
+mod start;
 mod step;
 mod stepped;
+#[cfg(test)]
+mod tests;
 mod trace;
 mod traps;
 

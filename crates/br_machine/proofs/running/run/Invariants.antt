@@ -1,3 +1,4 @@
+-- What the loop keeps: the run so far, room for the steps that are left, and no more answers taken than steps made.
 use Rattle.std.proofs.Common.{◌≡◌, ◌+◌, ◌≤◌, length}
 use Rattle.br_machine.specs.Run.{at_start}
 use Rattle.br_machine.proofs.Moments.{HasRun}
