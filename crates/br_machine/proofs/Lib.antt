@@ -4,3 +4,5 @@ pub mod Straight
 pub mod Begins
 pub mod Steps
 pub mod Words
+pub mod Leftovers
+pub mod Moments

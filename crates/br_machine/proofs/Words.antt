@@ -49,7 +49,7 @@ all_below-bytes_from : (ram : List ℕ) (p n : ℕ) → AllByRecursion (λ b. b 
 all_below-bytes_from ram p zero all = tt
 all_below-bytes_from ram p (suc n) all = (all_below-index 256 ram p (omega arith) all, all_below-bytes_from ram (p + 1) n all)
 
-all_below-low_bytes : (n v : ℕ) → AllByRecursion (λ b. b < 256) (low_bytes n v)
+pub all_below-low_bytes : (n v : ℕ) → AllByRecursion (λ b. b < 256) (low_bytes n v)
 all_below-low_bytes zero v = tt
 all_below-low_bytes (suc n) v = (omega arith, all_below-low_bytes n (v / 256))
 

@@ -6,3 +6,6 @@ pub mod Effects
 pub mod Step
 pub mod Steps
 pub mod Start
+pub mod Trace
+pub mod Run
+pub mod Junk

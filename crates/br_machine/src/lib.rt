@@ -7,11 +7,19 @@ mod laws;
 mod layout;
 mod machine;
 mod memory;
+mod running;
+mod start;
+mod step;
 mod stepped;
+#[cfg(test)]
+mod tests;
+mod trace;
 mod traps;
 
 pub use laws::{
     register_0_reads_0, steps_keep_the_code, steps_make_machines, steps_that_end_change_nothing,
 };
 pub use machine::Machine;
+pub use running::{End, run};
 pub use stepped::{Stepped, Trap};
+pub use trace::Trace;

@@ -40,6 +40,29 @@ impl Model for Machine {
 }
 
 impl Machine {
+    /// The machine of these parts.
+    pub(crate) fn of(registers: [u32; 32], pc: u32, ram: Vec<u8>, code_words: u32) -> Machine
+        requires { IsMachine (record {
+          registers = registers;
+          pc = pc;
+          ram = ram.items;
+          code_words = code_words;
+        }) }
+        ensures { result ≡ record {
+          registers = registers;
+          pc = pc;
+          ram = ram.items;
+          code_words = code_words;
+        } }
+    {
+        Machine {
+            registers,
+            pc,
+            ram,
+            code_words,
+        }
+    }
+
     /// What register `r` reads as, `r` below 32; register 0 reads 0 (RISC-V unprivileged manual,
     /// chapter 2.1).
     pub fn register(&self, r: u32) -> u32

@@ -1,0 +1,57 @@
+// One step of the machine.
+
+ghost use Rattle.std.specs.Prelude.{◌≡◌, ◌+◌, ◌≤◌};
+ghost use Rattle.std.specs.Bool.{OnTrue};
+ghost use Rattle.br_machine.specs.Layout.{code_base, ram_end};
+ghost use Rattle.br_machine.specs.Step.{is_in_code, fetched, step};
+
+use crate::layout::CODE_BASE;
+use crate::machine::Machine;
+use crate::stepped::{Stepped, Trap};
+use br_rv32im::{decode, instructions_and_words_match};
+
+impl Machine {
+    // Whether pc is the address of a byte of the code.
+    fn is_in_code(&self) -> bool
+        ensures value { result ≡ is_in_code self.now }
+        ensures in_ram { OnTrue result ((code_base ≤ self.now.pc) × (self.now.pc + 4 ≤ ram_end)) }
+    {
+        let pc = self.pc();
+        CODE_BASE <= pc && pc < CODE_BASE + 4 * self.code_words()
+    }
+
+    // The word at pc.
+    fn fetched(&self) -> u32
+        requires in_ram { (code_base ≤ self.now.pc) × (self.now.pc + 4 ≤ ram_end) }
+        ensures { result ≡ fetched self.now }
+    {
+        self.word_at(self.pc() - CODE_BASE)
+    }
+
+    fn trapped(&self, trap: Trap) -> Stepped
+        ensures { result ≡ Stepped.Trapped trap self.now.pc }
+    {
+        Stepped::Trapped(trap, self.pc())
+    }
+
+    /// One step: the instruction at pc is carried out, unless a rule would be broken, in the order
+    /// that [`Trap`] gives (RISC-V unprivileged manual, RV32I and the M extension). `next_answer`
+    /// is the answer that a device would give next. `Waiting`, `Halted` and `Trapped` change
+    /// nothing, so that the same step answers alike again.
+    pub fn step(&mut self, next_answer: Option<u32>) -> Stepped
+        ensures machine { self.new ≡ (step self.old next_answer).0 }
+        ensures end { result ≡ (step self.old next_answer).1 }
+    {
+        if !self.is_in_code() {
+            return self.trapped(Trap::FetchOutside);
+        }
+        let Some(i) = decode(self.fetched()) else {
+            return self.trapped(Trap::Illegal);
+        };
+        instructions_and_words_match();
+        match self.trap_of(i) {
+            Some(trap) => self.trapped(trap),
+            None => self.effect(i, next_answer),
+        }
+    }
+}
