@@ -1,1 +1,5 @@
+pub mod CommandFaults
 pub mod Largest
+pub mod LowestParts
+pub mod Numbered
+pub mod Positions

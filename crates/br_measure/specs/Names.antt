@@ -41,6 +41,7 @@ action_faults at given_args given_results action =
     else (if bytes_eq action (codes "MMIOWRITE") then count_faults at 2 0 given_args given_results
     else UnknownAction at ∷ [])
 
+-- faults of parts in turn
 abbrev pub joined : List (List NameFault) → List NameFault
 joined = flat_map (λ faults. faults)
 
@@ -72,7 +73,7 @@ duplicates_after earlier (f ∷ fs) =
 
 -- all faults of names in a program
 abbrev pub name_faults : List Func → List NameFault
-name_faults fs = duplicates_after [] fs ++ flat_map (λ f. commands_faults fs f.body) fs
+name_faults fs = duplicates_after [] fs ++ joined (map (λ f. commands_faults fs f.body) fs)
 
 -- one of the faults, and none of them is lower
 pub record IsLowest (faults : List NameFault) (fault : NameFault) : Type 0 where

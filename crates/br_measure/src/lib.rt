@@ -3,7 +3,9 @@
 
 mod bulk;
 mod fault;
+mod index;
 mod lowest;
+mod names;
 mod nested;
 
 pub use bulk::bulk_of;

@@ -1,0 +1,62 @@
+// The functions of a program by name.
+
+ghost use Rattle.std.specs.Prelude.{◌≡◌, ℕ, List, [], IfOk, option_copied};
+ghost use Rattle.std.specs.HashMap.{get_by};
+ghost use Rattle.std.specs.Str.{bytes_eq};
+ghost use Rattle.std.proofs.Props.{props};
+ghost use Rattle.br_syntax.specs.Functions.{function_named, number_named};
+ghost use Rattle.br_measure.specs.Names.{duplicates_after};
+ghost use Rattle.br_measure.specs.Lowest.{lowest};
+
+use crate::fault::NameFault;
+use crate::lowest::lower;
+use br_base::NoMemory;
+use br_syntax::Func;
+use std::alloc::Global;
+use std::collections::HashMap;
+
+/// The functions of a program, and the number of the first of each name.
+#[derive(Drop)]
+pub struct Index<'a> {
+    pub funcs: &'a [Func],
+    numbers: HashMap<&'a [u8], usize>,
+    ghost numbered: { (x : List ℕ) → get_by (λ k. bytes_eq x k.now) numbers ≡ number_named funcs.now x } by { Prim.hlevel props },
+}
+
+impl<'a> Index<'a> {
+    /// The functions by name, and the lowest fault of a name that an earlier function has.
+    pub fn new(alloc: Global, funcs: &'a [Func]) -> Result<(Index<'a>, Option<NameFault>), NoMemory>
+        ensures functions { IfOk result (λ r. r.0.funcs.now ≡ funcs.now) }
+        ensures fault { IfOk result (λ r. r.1 ≡ lowest (duplicates_after [] funcs.now)) }
+    {
+        let mut numbers = HashMap::new(alloc);
+        let mut fault = None;
+        for (i, f) in funcs.iter().enumerate() {
+            let name = f.name.bytes();
+            if numbers.contains_key(name) {
+                fault = lower(fault, Some(NameFault::DuplicateFunction(f.at)));
+            } else {
+                numbers.insert(name, i)?;
+            }
+        }
+        Ok((Index { funcs, numbers }, fault))
+    }
+
+    /// The number of the first function of a name.
+    pub fn number(&self, name: &[u8]) -> Option<usize>
+        ensures { result ≡ number_named self.now.funcs.now name.now }
+    {
+        self.numbers.get(name).copied()
+    }
+
+    /// The first function of a name.
+    #[tactic(auto, using(crate::proofs::Positions::positions))]
+    pub fn function(&self, name: &[u8]) -> Option<&Func>
+        ensures { option_copied result ≡ function_named self.now.funcs.now name.now }
+    {
+        match self.number(name) {
+            Some(n) => Some(&self.funcs[n]),
+            None => None,
+        }
+    }
+}
