@@ -1,3 +1,4 @@
 pub mod Implements
 pub mod SumCode
 pub mod Puts
+pub mod Refusal

@@ -1,0 +1,26 @@
+// Why a text is refused.
+
+use br_measure::NameFault;
+use br_sexpr::TextFault;
+use br_syntax::ShapeFault;
+use thiserror::Error;
+
+/// Why a text is refused. The first that applies, in the order of the variants, is the one.
+#[derive(Debug, Drop, Error)]
+pub enum Refusal {
+    /// The text has more than 1,048,576 bytes.
+    #[error("the text has more than 1,048,576 bytes")]
+    InputTooLong,
+    /// It is no sequence of names, numbers and lists.
+    #[error("{0:?}")]
+    Text(TextFault),
+    /// Its trees are not all functions.
+    #[error("{0:?}")]
+    Shape(ShapeFault),
+    /// A name is at fault, or the program is too large, calls itself or needs too much stack.
+    #[error("{0:?}")]
+    Names(NameFault),
+    /// A form that the compiler does not build yet begins at this offset.
+    #[error("a form that is not built yet, at offset {0}")]
+    NotYet(u32),
+}
