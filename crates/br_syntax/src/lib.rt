@@ -11,7 +11,9 @@ mod shaped;
 mod word;
 mod write_cmd;
 mod write_expr;
+mod write_program;
 
 pub use fault::ShapeFault;
 pub use function::from_tree;
 pub use program::{Cmd, Expr, Func, Program};
+pub use write_program::to_tree;
