@@ -7,9 +7,10 @@ use Rattle.br_syntax.specs.declared.program.Cmd.{Cmd}
 use Rattle.br_syntax.specs.declared.program.Cmd.TheVariants as cmd
 use Rattle.br_syntax.specs.declared.program.Cmd.TheOpen.{Cmd-F}
 use Rattle.br_syntax.specs.declared.program.Cmd.TheFolds.{fold-roll-Cmd}
-use Rattle.br_syntax.specs.Denotes.{command, commands, body_of, WithPlaces, with_places}
+use Rattle.br_syntax.specs.declared.program.Func.{Func}
+use Rattle.br_syntax.specs.Denotes.{function, functions, command, commands, body_of, WithPlaces, with_places}
 use Rattle.br_syntax.specs.Shaped.{all}
-use Rattle.br_syntax.specs.Offsets.{unplaced, unplaced_step}
+use Rattle.br_syntax.specs.Offsets.{unplaced_function, unplaced, unplaced_step}
 use Rattle.br_syntax.proofs.Written.{map-push, all_push_tree}
 
 pub unplaced-seq : (c : Cmd) (body : List Cmd) → c ≡ cmd.Seq body → cmd.Seq (map unplaced body) ≡ unplaced c
@@ -36,3 +37,10 @@ command_push trees cs i t c inside is here done =
     commands-map (trees ++ t ∷ [])
     ∙ all_push_tree command trees (map unplaced (take i cs)) t (unplaced c) (sym (commands-map trees) ∙ done) here
     ∙ ap Ok (sym (map-push unplaced (take i cs) c) ∙ ap (λ (xs : List Cmd). map unplaced xs) (sym more))
+
+-- one function more
+pub function_push : (trees : List Tree) (fs : List Func) (i : ℕ) (t : Tree) (f : Func) → i < length fs → f ≡ get_or fs i f → function t ≡ Ok (unplaced_function f) → functions trees ≡ Ok (map unplaced_function (take i fs)) → functions (trees ++ t ∷ []) ≡ Ok (map unplaced_function (take (i + 1) fs))
+function_push trees fs i t f inside is here done =
+    let more : take (i + 1) fs ≡ take i fs ++ f ∷ [] = take_more fs i f inside ∙ ap (λ (m : Func). take i fs ++ m ∷ []) (sym is) in
+    all_push_tree function trees (map unplaced_function (take i fs)) t (unplaced_function f) done here
+    ∙ ap Ok (sym (map-push unplaced_function (take i fs) f) ∙ ap (λ (xs : List Func). map unplaced_function xs) (sym more))

@@ -1,5 +1,5 @@
 -- What the trees of names and arguments stand for.
-use Rattle.std.proofs.Common.{◌≡◌, ◌≢◌, ℕ, ◌+◌, ◌≤◌, Bool, true, false, not, ◌&&◌, ◌||◌, List, [], ◌∷◌, ◌++◌, length, Ok, Err, map, refl, sym, ap, ◌∙◌, arith, length-append, nat_le, ◌==◌}
+use Rattle.std.proofs.Common.{◌≡◌, ◌≢◌, ℕ, ◌+◌, ◌≤◌, Bool, true, false, not, ◌&&◌, ◌||◌, List, [], ◌∷◌, ◌++◌, length, Ok, Err, map, refl, sym, ap, ◌∙◌, arith, codes, length-append, nat_le, ◌==◌}
 use Rattle.std.specs.List.{list_all, list_any}
 use Rattle.std.specs.Str.{bytes_eq}
 use Rattle.std.proofs.lemmas.Grind.{common_steps}
@@ -7,10 +7,12 @@ use Rattle.std.proofs.lemmas.List.Folds.{list_any-append}
 use Rattle.br_sexpr.specs.declared.tree.Tree.{Tree, out-Tree}
 use Rattle.br_sexpr.specs.declared.tree.Tree.TheVariants as tree
 use Rattle.br_syntax.specs.declared.program.Expr.{Expr}
-use Rattle.br_syntax.specs.Shape.{all_differ, are_names, are_arguments}
+use Rattle.br_syntax.specs.declared.program.Cmd.{Cmd}
+use Rattle.br_syntax.specs.declared.program.Func.{Func}
+use Rattle.br_syntax.specs.Shape.{all_differ, are_names, are_arguments, is_shaped_command, is_shaped_function}
 use Rattle.br_syntax.specs.Shaped.{Shaped, ◌<$>◌, both, all}
-use Rattle.br_syntax.specs.Denotes.{word_of, name_among, names_after, names, expression, argument_at, arguments_from}
-use Rattle.br_syntax.specs.Offsets.{is_unplaced}
+use Rattle.br_syntax.specs.Denotes.{function, commands, word_of, name_among, names_after, names, expression, argument_at, arguments_from}
+use Rattle.br_syntax.specs.Offsets.{is_unplaced, unplaced_function}
 use Rattle.br_syntax.proofs.Parts.{made, split}
 use Rattle.br_syntax.proofs.Written.{and_parts, one_before, unplaced-name, unplaced-list}
 
@@ -87,3 +89,28 @@ arguments_at i (t ∷ ts) es few is =
 
 pub arguments_written : (ts : List Tree) (es : List Expr) → are_arguments es ≡ true → all (map expression ts) ≡ Ok es → arguments_from 0 ts ≡ Ok es
 arguments_written ts es few is = arguments_at 0 ts es (grind (arith, common_steps, few)) is
+
+-- the items of a function's tree
+abbrev pub function_items : List ℕ → List (List ℕ) → List (List ℕ) → List Tree → List Tree
+function_items name args results trees = tree.Name 0 (codes "fn") ∷ tree.Name 0 name ∷ tree.List 0 (map (λ n. tree.Name 0 n) args) ∷ tree.List 0 (map (λ n. tree.Name 0 n) results) ∷ trees
+
+pub function_written : (name : List ℕ) (args results : List (List ℕ)) (trees : List Tree) (body : List Cmd) → are_names args ≡ true → are_names results ≡ true → commands trees ≡ Ok body → function (tree.List 0 (function_items name args results trees)) ≡ Ok (record { at = 0; name = name; args = args; results = results; body = body })
+function_written name args results trees body args_ok results_ok inner =
+    rw (tree.outs-List 0 (function_items name args results trees), tree.outs-Name 0 (codes "fn"), tree.outs-Name 0 name, names_written args args_ok, names_written results results_ok, inner) refl
+
+pub unplaced_function_tree : (name : List ℕ) (args results : List (List ℕ)) (trees : List Tree) → list_all is_unplaced trees ≡ true → is_unplaced (tree.List 0 (function_items name args results trees)) ≡ true
+unplaced_function_tree name args results trees inner =
+    unplaced-list 0 (function_items name args results trees)
+    ∙ rw (unplaced-name 0 (codes "fn"), unplaced-name 0 name, unplaced-names args, unplaced-names results, inner) refl
+
+-- names and commands within the limits, of a function within them
+pub record FunctionParts (f : Func) : Type 0 where
+  pub args_ok : are_names f.args ≡ true
+  pub results_ok : are_names f.results ≡ true
+  pub body_ok : list_all is_shaped_command f.body ≡ true
+
+pub function_parts : (f : Func) → is_shaped_function f ≡ true → FunctionParts f
+function_parts f ok =
+    let first = and_parts (are_names f.args) (are_names f.results && list_all is_shaped_command f.body) ok in
+    let rest = and_parts (are_names f.results) (list_all is_shaped_command f.body) first.1 in
+    record { args_ok = first.0; results_ok = rest.0; body_ok = rest.1 }
