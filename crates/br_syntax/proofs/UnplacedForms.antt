@@ -26,9 +26,9 @@ unplaced-interact c at results action arguments is = sym (ap unplaced (is ∙ sy
 commands-map : (ts : List Tree) → commands ts ≡ all (map command ts)
 commands-map ts = ap all (map-map ts)
   where
-  map-map : (ts : List Tree) → map (λ (part : WithPlaces). part.1.command) (map with_places ts) ≡ map command ts
-  map-map [] = refl
-  map-map (t ∷ ts) = ap (λ more. command t ∷ more) (map-map ts)
+    map-map : (ts : List Tree) → map (λ (part : WithPlaces). part.1.command) (map with_places ts) ≡ map command ts
+    map-map [] = refl
+    map-map (t ∷ ts) = ap (λ more. command t ∷ more) (map-map ts)
 
 -- one command more
 pub command_push : (trees : List Tree) (cs : List Cmd) (i : ℕ) (t : Tree) (c : Cmd) → i < length cs → c ≡ get_or cs i c → command t ≡ Ok (unplaced c) → commands trees ≡ Ok (map unplaced (take i cs)) → commands (trees ++ t ∷ []) ≡ Ok (map unplaced (take (i + 1) cs))

@@ -8,6 +8,8 @@ mod function;
 mod part;
 mod program;
 mod shaped;
+#[cfg(test)]
+mod tests;
 mod word;
 mod write_cmd;
 mod write_expr;

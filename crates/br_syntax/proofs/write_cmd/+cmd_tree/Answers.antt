@@ -57,9 +57,10 @@ cmd_tree-returns-in-Interact-clause-denotes t c =
 
 pub cmd_trees-loop-c-preserved : goal.cmd_trees-loop-c-preserved
 cmd_trees-loop-c-preserved t c =
-    rw c.in_ok-push.ensures.ok
-    (command_push c.loop-c.items c.args.body.now c.loop-c.c-index c.in_ok-cmd_tree.field-0 c.c-item.result c.loop-c-test.true c.c-item.is c.in_ok-cmd_tree.ensures.denotes c.loop-c.invariant.0,
-    unplaced_push c.loop-c.items c.in_ok-cmd_tree.field-0 c.loop-c.invariant.1 c.in_ok-cmd_tree.ensures.offsets)
+    rw c.in_ok-push.ensures.ok (
+      command_push c.loop-c.items c.args.body.now c.loop-c.c-index c.in_ok-cmd_tree.field-0 c.c-item.result c.loop-c-test.true c.c-item.is c.in_ok-cmd_tree.ensures.denotes c.loop-c.invariant.0,
+      unplaced_push c.loop-c.items c.in_ok-cmd_tree.field-0 c.loop-c.invariant.1 c.in_ok-cmd_tree.ensures.offsets,
+    )
 
 pub if_tree-returns-clause-denotes : goal.if_tree-returns-clause-denotes
 if_tree-returns-clause-denotes t c =
