@@ -24,6 +24,7 @@ use Rattle.br_syntax.specs.Shaped.{Shaped, ◌<$>◌, both, all}
 use Rattle.br_syntax.specs.Denotes.{offset_of, word_of, functions, function, function_in, function_list, function_of, name, names, expression, buffer_size, buffer_size_in, argument_at, arguments_from, Places, WithPlaces, places, places_in, with_places, body_of, skip_of, set_of, unset_of, store_of, stackalloc_of, if_of, while_of, seq_of, target_of, call_of, interact_of, form_of, command_of, behind_of, commands}
 use Rattle.br_syntax.proofs.Parts.{made, split}
 use Rattle.br_syntax.proofs.KeptNames.{names_are_kept}
+use Rattle.br_syntax.proofs.ShapedForms.{shaped-skip, shaped-set, shaped-unset, shaped-store, stackalloc_kept, if_kept, while_kept, seq_kept, Within, call_kept, interact_kept}
 
 -- a buffer's size that is read keeps the limit
 size_in_kept : (layer : Tree-F Tree) (n : ℕ) → buffer_size_in layer ≡ Ok n → is_buffer_size n ≡ true
@@ -46,38 +47,6 @@ arguments_kept i (t ∷ ts) es few e =
     let here : i ≢ 8 = not_ninth i t m.part.0 s.first in
     let more = arguments_kept (i + 1) ts m.part.1 (omega arith) s.second in
     rw m.whole (omega arith)
-
--- what a command that consists of a layer has to keep
-kept_layer : (layer : _) → is_shaped_command (roll-Cmd layer) ≡ command_step (map-Cmd Cmd Bool is_shaped_command layer)
-kept_layer layer = fold-roll-Cmd Bool command_step layer
-
--- the test of each command in a list, made first and then looked at
-tests-map : (cs : List Cmd) → list_all (λ (ok : Bool). ok) (map is_shaped_command cs) ≡ list_all is_shaped_command cs
-tests-map [] = refl
-tests-map (c ∷ cs) = ap (λ b. is_shaped_command c && b) (tests-map cs)
-
-stackalloc_kept : (x : List ℕ) (n : ℕ) (body : List Cmd) → is_buffer_size n ≡ true → list_all is_shaped_command body ≡ true → is_shaped_command (cmd.Stackalloc x n body) ≡ true
-stackalloc_kept x n body size inner = ap is_shaped_command (sym (cmd.rolls-Stackalloc x n body)) ∙ kept_layer (Cmd-F.Stackalloc x n body) ∙ rw (size, tests-map) inner
-
-if_kept : (e : Expr) (a b : List Cmd) → list_all is_shaped_command a ≡ true → list_all is_shaped_command b ≡ true → is_shaped_command (cmd.If e a b) ≡ true
-if_kept e a b first second = ap is_shaped_command (sym (cmd.rolls-If e a b)) ∙ kept_layer (Cmd-F.If e a b) ∙ rw (tests-map a, tests-map b, first) second
-
-while_kept : (e : Expr) (body : List Cmd) → list_all is_shaped_command body ≡ true → is_shaped_command (cmd.While e body) ≡ true
-while_kept e body inner = ap is_shaped_command (sym (cmd.rolls-While e body)) ∙ kept_layer (Cmd-F.While e body) ∙ rw tests-map inner
-
-seq_kept : (body : List Cmd) → list_all is_shaped_command body ≡ true → is_shaped_command (cmd.Seq body) ≡ true
-seq_kept body inner = ap is_shaped_command (sym (cmd.rolls-Seq body)) ∙ kept_layer (Cmd-F.Seq body) ∙ rw tests-map inner
-
--- results and arguments within their limits
-pub record Within (results : List (List ℕ)) (arguments : List Expr) : Type 0 where
-  pub names_ok : are_names results ≡ true
-  pub few : are_arguments arguments ≡ true
-
-call_kept : (at : ℕ) (results : List (List ℕ)) (callee : List ℕ) (arguments : List Expr) → Within results arguments → is_shaped_command (cmd.Call at results callee arguments) ≡ true
-call_kept at results callee arguments w = let a = w.names_ok in let b = w.few in ap is_shaped_command (sym (cmd.rolls-Call at results callee arguments)) ∙ kept_layer (Cmd-F.Call at results callee arguments) ∙ rw a b
-
-interact_kept : (at : ℕ) (results : List (List ℕ)) (action : List ℕ) (arguments : List Expr) → Within results arguments → is_shaped_command (cmd.Interact at results action arguments) ≡ true
-interact_kept at results action arguments w = let a = w.names_ok in let b = w.few in ap is_shaped_command (sym (cmd.rolls-Interact at results action arguments)) ∙ kept_layer (Cmd-F.Interact at results action arguments) ∙ rw a b
 
 -- commands that a tree stands for keep the limits
 record Keeps (p : Places) : Type 0 where
@@ -107,7 +76,7 @@ body_keeps (y ∷ ys) cs e =
     rw (m.whole, here) there
 
 skip_keeps : (at : ℕ) (ys : List KeptTree) (c : Cmd) → skip_of at (seen ys) ≡ Ok c → is_shaped_command c ≡ true
-skip_keeps at [] c e = let is : c ≡ cmd.Skip = cc in rw is (ap is_shaped_command (sym cmd.rolls-Skip) ∙ kept_layer Cmd-F.Skip)
+skip_keeps at [] c e = let is : c ≡ cmd.Skip = cc in rw is shaped-skip
 skip_keeps at (y ∷ ys) c e = absurd (cc)
 
 set_keeps : (at : ℕ) (ys : List KeptTree) (c : Cmd) → set_of at (seen ys) ≡ Ok c → is_shaped_command c ≡ true
@@ -115,14 +84,14 @@ set_keeps at [] c e = absurd (cc)
 set_keeps at (x ∷ []) c e = absurd (cc)
 set_keeps at (x ∷ v ∷ []) c e =
     let m = made (λ p. cmd.Set p.0 p.1) (both (name x.0) (expression v.0)) c e in
-    rw m.whole (ap is_shaped_command (sym (cmd.rolls-Set m.part.0 m.part.1)) ∙ kept_layer (Cmd-F.Set m.part.0 m.part.1))
+    rw m.whole (shaped-set m.part.0 m.part.1)
 set_keeps at (x ∷ v ∷ y ∷ ys) c e = absurd (cc)
 
 unset_keeps : (at : ℕ) (ys : List KeptTree) (c : Cmd) → unset_of at (seen ys) ≡ Ok c → is_shaped_command c ≡ true
 unset_keeps at [] c e = absurd (cc)
 unset_keeps at (x ∷ []) c e =
     let m = made cmd.Unset (name x.0) c e in
-    rw m.whole (ap is_shaped_command (sym (cmd.rolls-Unset m.part)) ∙ kept_layer (Cmd-F.Unset m.part))
+    rw m.whole (shaped-unset m.part)
 unset_keeps at (x ∷ y ∷ ys) c e = absurd (cc)
 
 store_keeps : (at : ℕ) (size : Size) (ys : List KeptTree) (c : Cmd) → store_of at size (seen ys) ≡ Ok c → is_shaped_command c ≡ true
@@ -130,7 +99,7 @@ store_keeps at size [] c e = absurd (cc)
 store_keeps at size (x ∷ []) c e = absurd (cc)
 store_keeps at size (x ∷ v ∷ []) c e =
     let m = made (λ p. cmd.Store size p.0 p.1) (both (expression x.0) (expression v.0)) c e in
-    rw m.whole (ap is_shaped_command (sym (cmd.rolls-Store size m.part.0 m.part.1)) ∙ kept_layer (Cmd-F.Store size m.part.0 m.part.1))
+    rw m.whole (shaped-store size m.part.0 m.part.1)
 store_keeps at size (x ∷ v ∷ y ∷ ys) c e = absurd (cc)
 
 stackalloc_keeps : (at : ℕ) (ys : List KeptTree) (c : Cmd) → stackalloc_of at (seen ys) ≡ Ok c → is_shaped_command c ≡ true

@@ -13,7 +13,7 @@ use Rattle.br_syntax.specs.Offsets.{zero_step, is_unplaced}
 use Rattle.br_syntax.proofs.Parts.{made, split}
 
 -- a first part with no fault before others with none
-one_before : {A : Type 0} (part : Shaped A) (parts : Shaped (List A)) (x : A) (xs : List A) → part ≡ Ok x → parts ≡ Ok xs → ((λ p. p.0 ∷ p.1) <$> both part parts) ≡ Ok (x ∷ xs)
+pub one_before : {A : Type 0} (part : Shaped A) (parts : Shaped (List A)) (x : A) (xs : List A) → part ≡ Ok x → parts ≡ Ok xs → ((λ p. p.0 ∷ p.1) <$> both part parts) ≡ Ok (x ∷ xs)
 one_before part parts x xs e f = rw (e, f) refl
 
 -- one part more
@@ -37,7 +37,7 @@ map-push f (y ∷ ys) x = ap (λ more. f y ∷ more) (map-push f ys x)
 pub all_push_tree : {A : Type 0} (place : Tree → Shaped A) (trees : List Tree) (xs : List A) (t : Tree) (x : A) → all (map place trees) ≡ Ok xs → place t ≡ Ok x → all (map place (trees ++ t ∷ [])) ≡ Ok (xs ++ x ∷ [])
 all_push_tree place trees xs t x done here = ap all (map-push place trees t) ∙ all_push (map place trees) xs (place t) x done here
 
-and_parts : (a b : Bool) → (a && b) ≡ true → (a ≡ true) × (b ≡ true)
+pub and_parts : (a b : Bool) → (a && b) ≡ true → (a ≡ true) × (b ≡ true)
 and_parts true b e = (refl, e)
 and_parts false b e = absurd (cc)
 

@@ -8,10 +8,14 @@ mod function;
 mod part;
 mod program;
 mod shaped;
+#[cfg(test)]
+mod tests;
 mod word;
 mod write_cmd;
 mod write_expr;
+mod write_program;
 
 pub use fault::ShapeFault;
 pub use function::from_tree;
 pub use program::{Cmd, Expr, Func, Program};
+pub use write_program::to_tree;

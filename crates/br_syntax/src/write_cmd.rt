@@ -83,12 +83,7 @@ fn unset_tree(alloc: Global, variable: &Name) -> Result<Tree, NoMemory>
     Ok(Tree::List { at: 0, items })
 }
 
-fn store_tree(
-    alloc: Global,
-    size: Size,
-    address: &Expr,
-    value: &Expr,
-) -> Result<Tree, NoMemory>
+fn store_tree(alloc: Global, size: Size, address: &Expr, value: &Expr) -> Result<Tree, NoMemory>
     ensures denotes { IfOk result (λ t. command t ≡ Ok (Cmd.Store size address.now value.now)) }
     ensures offsets { IfOk result (λ t. IsTrue (is_unplaced t)) }
 {

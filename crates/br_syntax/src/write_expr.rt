@@ -101,7 +101,12 @@ pub fn expr_tree(alloc: Global, e: &Expr) -> Result<Tree, NoMemory>
         }
         Expr::Table(size, table, index) => {
             let table = bytes_tree(alloc, table.as_slice())?;
-            list_of_three(alloc, table_word(*size), table, expr_tree(alloc, index.get())?)
+            list_of_three(
+                alloc,
+                table_word(*size),
+                table,
+                expr_tree(alloc, index.get())?,
+            )
         }
         Expr::Op(operation, first, second) => {
             let first = expr_tree(alloc, first.get())?;
