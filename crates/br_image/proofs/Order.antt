@@ -73,7 +73,7 @@ after_words (x ∷ v) (y ∷ w) l more e =
       | inr p ↦ inr (p.0, (let q = p.1 in omega arith))
     ]
 
-get_or_append_at : (es gs : List Entry) (y d : Entry) → get_or (es ++ y ∷ gs) (length es) d ≡ y
+pub get_or_append_at : (es gs : List Entry) (y d : Entry) → get_or (es ++ y ∷ gs) (length es) d ≡ y
 get_or_append_at [] gs y d = refl
 get_or_append_at (e ∷ es) gs y d = get_or_append_at es gs y d
 
@@ -144,7 +144,7 @@ entries_begin es h = (es, [], Count 0 ∷ End ∷ [], h, refl)
 
 pub words_begin : (es : List Entry) (n : ℕ) (ws : List ℕ) → length ws ≤ n → HaveDifferentNames es → BeginsImage (words_read es n ws)
 words_begin es n ws few h =
-    let zeros = replicate (n - length ws) 0 in
+    let zeros : List ℕ = replicate (n - length ws) 0 in
     let count : length (ws ++ zeros) ≡ length ws + (n - length ws) = length-append ws zeros ∙ ap (λ k. length ws + k) (length-replicate (n - length ws) 0) in
     let all : length (ws ++ zeros) ≡ n = count ∙ omega arith in
     let words : map Word ws ++ (map Word zeros ++ End ∷ []) ≡ map Word (ws ++ zeros) ++ End ∷ [] =

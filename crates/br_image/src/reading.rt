@@ -16,9 +16,10 @@ use crate::faults::ImageFault;
 use crate::images::{Entry, Image};
 use crate::lines::Line;
 use crate::parsing::{cut, parse_line};
-use br_base::{Name, OrMemory};
+use br_base::OrMemory;
 use sqlite_items::Items;
 use std::alloc::Global;
+use std::collections::BTreeSet;
 
 /// The line that begins at a place, and the place behind it.
 fn line_at(
@@ -58,7 +59,8 @@ fn read_head(alloc: Global, text: &[u8], start: usize) -> Result<Head, OrMemory<
     ensures read { IfOk result (λ h. WordsRead text.now h.entries h.count [] h.at) }
     ensures refused { IfErr result (λ e. ForFault e (IsFault text.now)) }
 {
-    let mut entries: Items<Entry> = Items::new(alloc);
+    let mut entries = Items::new(alloc);
+    let mut names = BTreeSet::new(alloc);
     let mut at = start;
     loop {
         let number = entries.len() as u32 + 2;
@@ -66,7 +68,7 @@ fn read_head(alloc: Global, text: &[u8], start: usize) -> Result<Head, OrMemory<
         at = next;
         match line {
             Line::Function(entry) => {
-                if has_name(entries.as_slice(), &entry.name) {
+                if !names.insert(Vec::from_slice(alloc, entry.name.bytes())?)? {
                     return Err(OrMemory::Fault(ImageFault::BadOrder(number)));
                 }
                 entries.push(entry)?;
@@ -75,15 +77,6 @@ fn read_head(alloc: Global, text: &[u8], start: usize) -> Result<Head, OrMemory<
             _ => return Err(OrMemory::Fault(ImageFault::BadOrder(number))),
         }
     }
-}
-
-/// Whether one of the entries has this name.
-fn has_name(entries: &[Entry], name: &Name) -> bool
-    ensures { IsTrue result ↔ Any (λ e. e.name ≡ name.now) entries.now }
-{
-    entries
-        .iter()
-        .any(|entry| entry.name.bytes() == name.bytes())
 }
 
 /// The words of code that stand behind the head, and where they end.
