@@ -4,3 +4,4 @@ mod Computing
 mod Writing
 mod Whole
 mod Assembled
+mod Fronts

@@ -2,3 +2,4 @@ pub mod Implements
 pub mod SumCode
 pub mod Puts
 pub mod Refusal
+pub mod FirstSteps

@@ -3,10 +3,12 @@
 
 mod compiling;
 mod images;
+mod laws;
 mod refusal;
 mod sums;
 mod unbuilt;
 mod writes;
 
 pub use compiling::{MOST_BULK, MOST_BYTES, compile};
+pub use laws::first_steps_show_a_run;
 pub use refusal::Refusal;
