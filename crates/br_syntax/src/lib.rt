@@ -5,6 +5,7 @@ mod command;
 mod expression;
 mod fault;
 mod function;
+mod law;
 mod part;
 mod program;
 mod shaped;
@@ -17,5 +18,6 @@ mod write_program;
 
 pub use fault::ShapeFault;
 pub use function::from_tree;
+pub use law::{offsets_left_out, one_meaning};
 pub use program::{Cmd, Expr, Func, Program};
 pub use write_program::to_tree;

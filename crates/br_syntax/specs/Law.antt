@@ -1,0 +1,29 @@
+-- Laws of what trees stand for.
+use Rattle.std.specs.Prelude.{◌≡◌, ◌⊎◌, List}
+use Rattle.br_sexpr.specs.declared.tree.Tree.{Tree}
+use Rattle.br_syntax.specs.declared.fault.ShapeFault.{ShapeFault}
+use Rattle.br_syntax.specs.declared.program.Func.{Func}
+use Rattle.br_syntax.specs.Denotes.{Denotes, IsShapeFault}
+use Rattle.br_syntax.specs.Offsets.{without_offsets, IsEqualUpToOffsets}
+use Rattle.br_syntax.specs.Shape.{IsShaped}
+
+-- there is a program or a fault
+abbrev pub HasMeaning : List Tree → Type 0
+HasMeaning trees = ((funcs : List Func) × Denotes trees funcs) ⊎ ((fault : ShapeFault) × IsShapeFault trees fault)
+
+abbrev pub AtMostOneProgram : List Tree → Type 0
+AtMostOneProgram trees = (one other : List Func) → Denotes trees one → Denotes trees other → one ≡ other
+
+abbrev pub AtMostOneFault : List Tree → Type 0
+AtMostOneFault trees = (one other : ShapeFault) → IsShapeFault trees one → IsShapeFault trees other → one ≡ other
+
+abbrev pub NeverBoth : List Tree → Type 0
+NeverBoth trees = (funcs : List Func) (fault : ShapeFault) → Denotes trees funcs → IsShapeFault trees fault → ⊥
+
+-- what trees stand for keeps the limits on names, arguments and buffers
+abbrev pub KeepsLimits : List Tree → Type 0
+KeepsLimits trees = (funcs : List Func) → Denotes trees funcs → IsShaped funcs
+
+-- offsets that are left out twice are left out once
+abbrev pub UnplacedAgain : List Func → Type 0
+UnplacedAgain funcs = IsEqualUpToOffsets (without_offsets funcs) funcs
