@@ -26,6 +26,7 @@ fn main(rt: HostRuntime) -> Result<()> {
     measure_kind(&rt, "numbers", b"0 4294967295 0xFFFFFFFF 10 ")?;
     measure_kind(&rt, "one name", b"n")?;
     measure_kind(&rt, "comments", b"; a comment ()&\n")?;
+    measure_kind(&rt, "commands", b"(set y 16) (skip)\n")?;
     measure_kind(&rt, "flat", b"(a)")?;
     let deep = nested(rt.alloc())?;
     measure_kind(&rt, "deep", &deep)?;
