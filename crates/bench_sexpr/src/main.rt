@@ -1,5 +1,5 @@
 //! How long reading and printing take, for texts of several kinds and sizes. Only with the word
-//! `time` does it measure and write; `bench/sexpr.sh` gives it.
+//! `time` does it measure and write; `bench/sexpr` gives it.
 #![tactic(auto)]
 
 use anyhow::{Result, bail};
