@@ -1,5 +1,5 @@
 //! How long reading and printing take, for texts of several kinds and sizes. Only with the word
-//! `time` does it measure and write; `bench/sexpr.sh` gives it.
+//! `time` does it measure and write; `bench/sexpr` gives it.
 #![tactic(auto)]
 
 use anyhow::{Result, bail};
@@ -26,6 +26,7 @@ fn main(rt: HostRuntime) -> Result<()> {
     measure_kind(&rt, "numbers", b"0 4294967295 0xFFFFFFFF 10 ")?;
     measure_kind(&rt, "one name", b"n")?;
     measure_kind(&rt, "comments", b"; a comment ()&\n")?;
+    measure_kind(&rt, "commands", b"(set y 16) (skip)\n")?;
     measure_kind(&rt, "flat", b"(a)")?;
     let deep = nested(rt.alloc())?;
     measure_kind(&rt, "deep", &deep)?;

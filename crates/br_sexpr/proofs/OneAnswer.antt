@@ -7,12 +7,11 @@ use Rattle.br_sexpr.specs.declared.tree.Tree.{Tree}
 use Rattle.br_sexpr.specs.declared.tree.TextFault.{TextFault}
 use Rattle.br_sexpr.specs.declared.tree.TextFault.TheVariants.{ExtraClose, BadNumber, BadByte, TooDeep, Unclosed}
 use Rattle.br_sexpr.specs.declared.tree.Tree.TheViews as view
-use Rattle.br_sexpr.specs.declared.reading.OpenList.{OpenList}
 use Rattle.br_sexpr.specs.Layout.{Piece, IsLayout}
 use Rattle.br_sexpr.specs.Token.{Token, opens, closes, names, numbers, misspells, strays, kept, tokens_of}
 use Rattle.br_sexpr.specs.Forest.{tree_tokens, forest_tokens, forest_height}
 use Rattle.br_sexpr.specs.Reads.{Reads, HasFault}
-use Rattle.br_sexpr.specs.Progress.{outside, pieces, fault_within, seen_in, FitsIn}
+use Rattle.br_sexpr.specs.Progress.{Opened, outside, pieces, fault_within, seen_in, FitsIn}
 use Rattle.br_sexpr.proofs.ForestLemmas.{tokens-name, tokens-number, height-name, height-number}
 use Rattle.br_sexpr.proofs.Layouts.{layout, layout-is}
 use Rattle.br_sexpr.proofs.Faults.{IsFault-found, found-IsFault}
@@ -37,15 +36,15 @@ pub not-both : (text : List ℕ) (ts : List Tree) (f : TextFault) → Reads text
 not-both text ts f r s = none-some f (sym (reads-faultless text ts r) ∙ ap (λ ps. fault_within [] (tokens_of 0 ps)) (same-layout text r.pieces s.pieces r.layout s.layout) ∙ found-IsFault _ f s.fault)
 
 -- trees that go on from lists that are open and the trees in the last of them, with these tokens
-record GoesOn (os : List OpenList) (items : List Tree) (ts : List Token) : Type 0 where
+record GoesOn (os : List Opened) (items : List Tree) (ts : List Token) : Type 0 where
   trees : List Tree
   tokens : seen_in os items ++ map kept ts ≡ forest_tokens trees
   shallow : forest_height trees ≤ 256
 
-abbrev places_of : List OpenList → List ℕ
+abbrev places_of : List Opened → List ℕ
 places_of os = map (λ o. o.at) os
 
-last_of : (os : List OpenList) → (os ≡ []) ⊎ ((front : List OpenList) × (o : OpenList) × (os ≡ front ++ o ∷ []))
+last_of : (os : List Opened) → (os ≡ []) ⊎ ((front : List Opened) × (o : Opened) × (os ≡ front ++ o ∷ []))
 last_of [] = inl refl
 last_of (o ∷ os) = ⊎_elim
     (λ none. inr ([], o, ap (λ ps. o ∷ ps) none))
@@ -55,45 +54,45 @@ last_of (o ∷ os) = ⊎_elim
 too_deep : (xs : List ℕ) (at : ℕ) (ts : List Token) → 256 ≤ length xs → fault_within xs (opens at ∷ ts) ≡ Some (TooDeep at)
 too_deep xs at ts deep = grind arith
 
-goes-open : (os : List OpenList) (items : List Tree) (at : ℕ) (ts : List Token) → GoesOn (os ++ (record { at = at; before = items }) ∷ []) [] ts → GoesOn os items (opens at ∷ ts)
+goes-open : (os : List Opened) (items : List Tree) (at : ℕ) (ts : List Token) → GoesOn (os ++ (record { at = at; before = items }) ∷ []) [] ts → GoesOn os items (opens at ∷ ts)
 goes-open os items at ts g = record {
   trees = g.trees;
   tokens = sym (append_assoc (seen_in os items) (opens at ∷ []) (map kept ts)) ∙ ap (λ us. us ++ map kept ts) (sym (seen-open os (record { at = at; before = items }) [])) ∙ g.tokens;
   shallow = g.shallow;
 }
 
-goes-close : (os : List OpenList) (o : OpenList) (items : List Tree) (at : ℕ) (ts : List Token) → GoesOn os (o.before ++ view.List o.at items ∷ []) ts → GoesOn (os ++ o ∷ []) items (closes at ∷ ts)
+goes-close : (os : List Opened) (o : Opened) (items : List Tree) (at : ℕ) (ts : List Token) → GoesOn os (o.before ++ view.List o.at items ∷ []) ts → GoesOn (os ++ o ∷ []) items (closes at ∷ ts)
 goes-close os o items at ts g = record {
   trees = g.trees;
   tokens = sym (append_assoc (seen_in (os ++ o ∷ []) items) (closes 0 ∷ []) (map kept ts)) ∙ ap (λ us. us ++ map kept ts) (sym (seen-close os o items)) ∙ g.tokens;
   shallow = g.shallow;
 }
 
-goes-push : (os : List OpenList) (items : List Tree) (tree : Tree) (t : Token) (ts : List Token) → tree_tokens tree ≡ kept t ∷ [] → GoesOn os (items ++ tree ∷ []) ts → GoesOn os items (t ∷ ts)
+goes-push : (os : List Opened) (items : List Tree) (tree : Tree) (t : Token) (ts : List Token) → tree_tokens tree ≡ kept t ∷ [] → GoesOn os (items ++ tree ∷ []) ts → GoesOn os items (t ∷ ts)
 goes-push os items tree t ts is g = record {
   trees = g.trees;
   tokens = sym (append_assoc (seen_in os items) (kept t ∷ []) (map kept ts)) ∙ ap (λ us. (seen_in os items ++ us) ++ map kept ts) (sym is) ∙ ap (λ us. us ++ map kept ts) (sym (seen-push os items tree)) ∙ g.tokens;
   shallow = g.shallow;
 }
 
-goes_on : (ts : List Token) (os : List OpenList) (items : List Tree) → fault_within (places_of os) ts ≡ None → FitsIn 0 os items → GoesOn os items ts
+goes_on : (ts : List Token) (os : List Opened) (items : List Tree) → fault_within (places_of os) ts ≡ None → FitsIn 0 os items → GoesOn os items ts
 goes_on [] [] items right fits = record { trees = items; tokens = append-nil (forest_tokens items); shallow = omega (arith, fits) }
 goes_on [] (o ∷ os) items right fits = absurd (none-some (Unclosed o.at) (sym right))
 goes_on (opens at ∷ ts) os items right fits = ⊎_elim
     (λ room. goes-open os items at ts (goes_on ts (os ++ (record { at = at; before = items }) ∷ []) []
-    (ap (λ xs. fault_within xs ts) (map-append (λ (o : OpenList). o.at) os ((record { at = at; before = items }) ∷ [])) ∙ sym (fault-open (places_of os) at ts (omega (arith, room, length-map os (λ (o : OpenList). o.at)))) ∙ right)
+    (ap (λ xs. fault_within xs ts) (map-append (λ (o : Opened). o.at) os ((record { at = at; before = items }) ∷ [])) ∙ sym (fault-open (places_of os) at ts (omega (arith, room, length-map os (λ (o : Opened). o.at)))) ∙ right)
     (FitsIn-open 0 os (record { at = at; before = items }) fits (omega (arith, room)))))
-    (λ deep. absurd (none-some (TooDeep at) (sym right ∙ too_deep (places_of os) at ts (omega (arith, deep, length-map os (λ (o : OpenList). o.at))))))
+    (λ deep. absurd (none-some (TooDeep at) (sym right ∙ too_deep (places_of os) at ts (omega (arith, deep, length-map os (λ (o : Opened). o.at))))))
     (cases_lt (length os) 256)
 goes_on (closes at ∷ ts) os items right fits = ⊎_elim
     (λ none. absurd (none-some (ExtraClose at) (sym right ∙ ap (λ ps. fault_within (places_of ps) (closes at ∷ ts)) none)))
     (λ split.
     let front = split.0 in
     let o = split.1 in
-    let P : List OpenList → Type 0 = λ ps. GoesOn ps items (closes at ∷ ts) in
-    let Q : List OpenList → Type 0 = λ ps. FitsIn 0 ps items in
+    let P : List Opened → Type 0 = λ ps. GoesOn ps items (closes at ∷ ts) in
+    let Q : List Opened → Type 0 = λ ps. FitsIn 0 ps items in
     subst P (sym split.2) (goes-close front o items at ts (goes_on ts front (o.before ++ view.List o.at items ∷ [])
-    (sym (fault-close (places_of front) o.at at ts) ∙ ap (λ xs. fault_within xs (closes at ∷ ts)) (sym (map-append (λ (p : OpenList). p.at) front (o ∷ []))) ∙ ap (λ ps. fault_within (places_of ps) (closes at ∷ ts)) (sym split.2) ∙ right)
+    (sym (fault-close (places_of front) o.at at ts) ∙ ap (λ xs. fault_within xs (closes at ∷ ts)) (sym (map-append (λ (p : Opened). p.at) front (o ∷ []))) ∙ ap (λ ps. fault_within (places_of ps) (closes at ∷ ts)) (sym split.2) ∙ right)
     (FitsIn-close 0 front o items (subst Q split.2 fits)))))
     (last_of os)
 goes_on (names at bytes ∷ ts) os items right fits =

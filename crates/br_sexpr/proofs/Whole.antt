@@ -10,20 +10,25 @@ use Rattle.br_sexpr.specs.declared.reading.Reader.{Reader}
 use Rattle.br_sexpr.specs.Token.{kept}
 use Rattle.br_sexpr.specs.Fault.{unclosed}
 use Rattle.br_sexpr.specs.Forest.{forest_tokens}
-use Rattle.br_sexpr.specs.Progress.{fault_within, tokens_from, token_as, seen_in, seen, places, FitsIn, Fits, Took, Refuses, Ends, Answers}
+use Rattle.br_sexpr.specs.Progress.{fault_within, tokens_from, token_as, seen, places, FitsIn, Fits, IsOrdered, Took, Refuses, Ends, Answers}
+use Rattle.br_sexpr.proofs.Steps.{Holds, Holds-is, seen-holds, to-Fits, from-Fits}
 
 -- what is known of a reader that has come to an offset of a text
 pub record SoFar (r : Reader) (place : ℕ) (text : List ℕ) : Type 0 where
   pub tokens : seen r ++ map kept (tokens_from place (drop place text)) ≡ map kept (tokens_from 0 text)
   pub fault : fault_within (places r) (tokens_from place (drop place text)) ≡ fault_within [] (tokens_from 0 text)
   pub fits : Fits r
+  pub ordered : IsOrdered r
 
-pub so_far-none : (r : Reader) (text : List ℕ) → r.lists ≡ [] → r.items ≡ [] → SoFar r 0 text
-so_far-none r text closed empty = record {
-  tokens = rw (closed, empty) refl;
-  fault = rw closed refl;
-  fits = rw (closed, empty) (omega arith);
-}
+pub so_far-none : (r : Reader) (text : List ℕ) → r.lists.items ≡ [] → r.trees.items ≡ [] → SoFar r 0 text
+so_far-none r text closed empty =
+    let h : Holds r [] [] = Holds-is r [] [] [] [] closed empty refl refl in
+    record {
+      tokens = ap (λ ts. ts ++ map kept (tokens_from 0 text)) (seen-holds r [] [] h);
+      fault = rw closed refl;
+      fits = to-Fits r [] [] h (omega arith);
+      ordered = rw (closed, empty) (omega arith);
+    }
 
 -- how the rest of a text begins
 abbrev pub Cut : ℕ → ℕ → Kind → List ℕ → Type 0
@@ -42,6 +47,7 @@ module _ (text rest : List ℕ) (place n : ℕ) (k : Kind) (is : rest ≡ drop p
         ∙ before.tokens;
     fault = sym (took.fault (tokens_from (place + n) (drop (place + n) text))) ∙ ap (fault_within (places old)) (sym cut-rest) ∙ before.fault;
     fits = took.fits before.fits;
+    ordered = took.ordered;
   }
 
   pub so_far-refused : (old : Reader) (e : OrMemory TextFault) → Refuses e (places old) (token_as place k (take n rest)) → SoFar old place text → Answers (Err e) (tokens_from 0 text)
@@ -55,10 +61,11 @@ nothing-left place = refl
 pub so_far-all : (r : Reader) (place : ℕ) (text : List ℕ) (result : Result (List Tree) (OrMemory TextFault)) → length text ≤ place → SoFar r place text → Ends r result → Answers result (tokens_from 0 text)
 so_far-all r place text (Ok trees) long before ends =
     let none : tokens_from place (drop place text) ≡ [] = ap (tokens_from place) (drop_all place text long) ∙ nothing-left place in
+    let h : Holds r [] r.trees.items = Holds-is r [] r.trees.items [] r.trees.items ends.0 refl refl refl in
     record {
-      tokens = sym before.tokens ∙ ap (λ ts. seen r ++ map kept ts) none ∙ append-nil (seen r) ∙ ap (λ os. seen_in os r.items) ends.0 ∙ ap forest_tokens (sym ends.1);
+      tokens = sym before.tokens ∙ ap (λ ts. seen r ++ map kept ts) none ∙ append-nil (seen r) ∙ seen-holds r [] r.trees.items h ∙ ap forest_tokens (sym ends.1);
       faultless = sym before.fault ∙ ap (fault_within (places r)) none ∙ ap (λ os. unclosed (map (λ o. o.at) os)) ends.0;
-      fits = let flat : FitsIn 0 [] r.items = rw ends.0 at before.fits in rw ends.1 (omega (arith, flat));
+      fits = let flat : FitsIn 0 [] r.trees.items = from-Fits r [] r.trees.items h before.fits in rw ends.1 (omega (arith, flat));
     }
 so_far-all r place text (Err e) long before ends =
     let none : tokens_from place (drop place text) ≡ [] = ap (tokens_from place) (drop_all place text long) ∙ nothing-left place in

@@ -1,5 +1,5 @@
 -- How far a reader has come. Only private functions speak of it.
-use Rattle.std.specs.Prelude.{◌≡◌, ℕ, ◌+◌, ◌*◌, ◌^◌, ◌≤◌, Bool, false, ◌&&◌, List, [], ◌∷◌, ◌++◌, map, Option, Some, None, Result, Ok, Err, ⊤, nat_lt, ◌==◌, if◌then◌else◌}
+use Rattle.std.specs.Prelude.{◌≡◌, ℕ, ◌+◌, ◌*◌, ◌^◌, ◌-◌, ◌≤◌, Bool, false, ◌&&◌, List, [], ◌∷◌, ◌++◌, length, take, drop, map, Option, Some, None, Result, Ok, Err, ⊤, nat_lt, ◌==◌, if◌then◌else◌}
 use Rattle.std.specs.Char.{digit_value, is_digit}
 use Rattle.std.specs.List.{take_while}
 use Rattle.br_base.specs.Name.{continues_name}
@@ -61,24 +61,46 @@ token_as at kind.Close bytes = closes at ∷ []
 token_as at kind.Run bytes = token_of_run at bytes ∷ []
 token_as at kind.Stray bytes = strays at ∷ []
 
+-- a list that is open: the offset of its `(`, and the trees before it in the list around it
+pub record Opened : Type 0 where
+  pub at : ℕ
+  pub before : List Tree
+
+-- The lists that are open, where the first trees of all stand before them, and the trees in the last of them.
+abbrev pub opened : ℕ → List OpenList → List Tree → List Opened
+opened base [] trees = []
+opened base (o ∷ os) trees = (record { at = o.at; before = take (o.start - base) trees }) ∷ opened o.start os (drop (o.start - base) trees)
+
+abbrev pub innermost : ℕ → List OpenList → List Tree → List Tree
+innermost base [] trees = trees
+innermost base (o ∷ os) trees = innermost o.start os (drop (o.start - base) trees)
+
+-- each list starts at or behind the one around it, and none behind n
+abbrev pub Ordered : ℕ → List OpenList → ℕ → Type 0
+Ordered base [] n = base ≤ n
+Ordered base (o ∷ os) n = (base ≤ o.start) × Ordered o.start os n
+
+abbrev pub IsOrdered : Reader → Type 0
+IsOrdered r = Ordered 0 r.lists.items (length r.trees.items)
+
 -- the tokens of lists that are open and of the trees in the last of them
-abbrev pub seen_in : List OpenList → List Tree → List Token
+abbrev pub seen_in : List Opened → List Tree → List Token
 seen_in [] items = forest_tokens items
 seen_in (o ∷ os) items = forest_tokens o.before ++ opens o.at ∷ seen_in os items
 
 abbrev pub seen : Reader → List Token
-seen r = seen_in r.lists r.items
+seen r = seen_in (opened 0 r.lists.items r.trees.items) (innermost 0 r.lists.items r.trees.items)
 
 abbrev pub places : Reader → List ℕ
-places r = map (λ o. o.at) r.lists
+places r = map (λ o. o.at) r.lists.items
 
 -- no list stands in 256 others, where n lists are open around these
-abbrev pub FitsIn : ℕ → List OpenList → List Tree → Type 0
+abbrev pub FitsIn : ℕ → List Opened → List Tree → Type 0
 FitsIn n [] items = n + forest_height items ≤ 256
 FitsIn n (o ∷ os) items = (n + forest_height o.before ≤ 256) × FitsIn (n + 1) os items
 
 abbrev pub Fits : Reader → Type 0
-Fits r = FitsIn 0 r.lists r.items
+Fits r = FitsIn 0 (opened 0 r.lists.items r.trees.items) (innermost 0 r.lists.items r.trees.items)
 
 -- the fault that something wrong is, or else what follows
 abbrev pub or_else : Option TextFault → Option TextFault → Option TextFault
@@ -95,6 +117,7 @@ pub record Took (old new : Reader) (ts : List Token) : Type 0 where
   pub tokens : seen new ≡ seen old ++ map kept ts
   pub fault : (rest : List Token) → fault_within (places old) (ts ++ rest) ≡ fault_within (places new) rest
   pub fits : Fits old → Fits new
+  pub ordered : IsOrdered new
 
 -- where the parentheses at these offsets are open, these tokens are refused
 abbrev pub Refuses : OrMemory TextFault → List ℕ → List Token → Type 0
@@ -103,7 +126,7 @@ Refuses (Fault f) xs ts = (rest : List Token) → fault_within xs (ts ++ rest) �
 
 -- at the end of a text: the trees, where no list is open, or that a list is
 abbrev pub Ends : Reader → Result (List Tree) (OrMemory TextFault) → Type 0
-Ends r (Ok trees) = (r.lists ≡ []) × (trees ≡ r.items)
+Ends r (Ok trees) = (r.lists.items ≡ []) × (trees ≡ r.trees.items)
 Ends r (Err e) = (f : TextFault) × (e ≡ Fault f) × (unclosed (places r) ≡ Some f)
 
 -- the tree is this token alone

@@ -19,19 +19,20 @@ use std::alloc::Global;
 /// How many lists may stand in one another.
 const MOST_OPEN: usize = 256;
 
-/// A list whose `)` has not come, and the trees that stand before it in the list around it.
-#[derive(Debug, Drop)]
+/// A list whose `)` has not come: where its `(` stands, and where its first tree stands among the
+/// trees of the reader.
+#[derive(Clone, Copy, Debug)]
 struct OpenList {
     at: u32,
-    before: Items<Tree>,
+    start: usize,
 }
 
-/// What was read so far: the lists that are open, the outermost first, and the trees of the last.
+/// What was read so far: the trees that are in no finished list, and the lists that are open, the
+/// outermost first.
 #[derive(Debug, Drop)]
 struct Reader {
-    alloc: Global,
-    lists: Items<OpenList>,
-    items: Items<Tree>,
+    trees: Vec<Tree>,
+    lists: Vec<OpenList>,
 }
 
 /// The trees of a text. Blanks are space, tab, line feed and carriage return; a comment runs from
@@ -69,21 +70,21 @@ fn trees_of(alloc: Global, bytes: &[u8]) -> Result<Items<Tree>, OrMemory<TextFau
 
 impl Reader {
     ghost use Rattle.br_sexpr.specs.Fault.{unclosed};
-    ghost use Rattle.br_sexpr.specs.Progress.{Took, Ends, places};
+    ghost use Rattle.br_sexpr.specs.Progress.{IsOrdered, Took, Ends, places};
 
     fn new(alloc: Global) -> Reader
-        ensures no_list { result.lists ≡ [] }
-        ensures empty { result.items ≡ [] }
+        ensures no_list { result.lists.items ≡ [] }
+        ensures empty { result.trees.items ≡ [] }
     {
         Reader {
-            alloc,
-            lists: Items::new(alloc),
-            items: Items::new(alloc),
+            trees: Vec::new(alloc),
+            lists: Vec::new(alloc),
         }
     }
 
     /// Takes the piece of these bytes that stands at this offset.
     fn take(&mut self, at: u32, kind: Kind, bytes: &[u8]) -> Result<(), OrMemory<TextFault>>
+        requires { IsOrdered self.old }
         ensures took { OnOk result (Took self.old self.new (token_as at kind bytes.now)) }
         ensures refused { IfErr result (λ e. Refuses e (places self.old) (token_as at kind bytes.now)) }
     {
@@ -97,44 +98,48 @@ impl Reader {
     }
 
     fn begin_list(&mut self, at: u32) -> Result<(), OrMemory<TextFault>>
+        requires { IsOrdered self.old }
         ensures took { OnOk result (Took self.old self.new (opens at ∷ [])) }
         ensures refused { IfErr result (λ e. Refuses e (places self.old) (opens at ∷ [])) }
     {
         if self.lists.len() >= MOST_OPEN {
             return Err(OrMemory::Fault(TextFault::TooDeep(at)));
         }
-        let before = std::mem::replace(&mut self.items, Items::new(self.alloc));
-        self.lists.push(OpenList { at, before })?;
+        let start = self.trees.len();
+        self.lists.push(OpenList { at, start })?;
         Ok(())
     }
 
     fn end_list(&mut self, at: u32) -> Result<(), OrMemory<TextFault>>
+        requires { IsOrdered self.old }
         ensures took { OnOk result (Took self.old self.new (closes at ∷ [])) }
         ensures refused { IfErr result (λ e. Refuses e (places self.old) (closes at ∷ [])) }
     {
         match self.lists.pop() {
             None => Err(OrMemory::Fault(TextFault::ExtraClose(at))),
             Some(list) => {
-                let items = std::mem::replace(&mut self.items, list.before);
-                self.items.push(Tree::List { at: list.at, items })?;
+                let items = Items::from_vec(self.trees.split_off(list.start)?);
+                self.trees.push(Tree::List { at: list.at, items })?;
                 Ok(())
             }
         }
     }
 
     fn push(&mut self, at: u32, run: &[u8]) -> Result<(), OrMemory<TextFault>>
+        requires { IsOrdered self.old }
         ensures took { OnOk result (Took self.old self.new (token_of_run at run.now ∷ [])) }
         ensures refused { IfErr result (λ e. Refuses e (places self.old) (token_of_run at run.now ∷ [])) }
     {
-        self.items.push(word(self.alloc, at, run)?)?;
+        let tree = word(*self.trees.allocator(), at, run)?;
+        self.trees.push(tree)?;
         Ok(())
     }
 
     /// The offset of the outermost list that is open.
     fn first_open(&self) -> Option<u32>
-        ensures { MatchOption result (self.now.lists ≡ []) (λ at. unclosed (places self.now) ≡ Some (TextFault.Unclosed at)) }
+        ensures { MatchOption result (self.now.lists.items ≡ []) (λ at. unclosed (places self.now) ≡ Some (TextFault.Unclosed at)) }
     {
-        let first = self.lists.as_slice().first()?;
+        let first = self.lists.first()?;
         Some(first.at)
     }
 
@@ -142,7 +147,7 @@ impl Reader {
         ensures { Ends self result }
     {
         match self.first_open() {
-            None => Ok(self.items),
+            None => Ok(Items::from_vec(self.trees)),
             Some(at) => Err(OrMemory::Fault(TextFault::Unclosed(at))),
         }
     }
