@@ -6,12 +6,11 @@ use Rattle.std.specs.FinMap as map
 use Rattle.br_bytes.specs.Number.{low_bytes}
 use Rattle.br_machine.specs.Layout.{code_base}
 use Rattle.br_machine.specs.State.{MachineState, IsMachine}
-use Rattle.br_machine.specs.Start.{Leftover, code_bytes, overlaid, start, start_ram, with_words}
+use Rattle.br_machine.specs.Start.{code_bytes, overlaid, start, start_ram, with_words}
 use Rattle.br_machine.specs.Junk.{junk_of}
 use Rattle.std.proofs.lemmas.List.{take_all, length-replicate}
 use Rattle.std.proofs.Math.ListN.{length-set}
 use Rattle.std.specs.List.{AllByRecursion}
-use Rattle.br_machine.proofs.Ram.{length-low_bytes}
 use Rattle.br_machine.proofs.Words.{all_below-set, all_below-low_bytes}
 
 pub length-code_bytes : (code : List ℕ) → length (code_bytes code) ≡ 4 * length code

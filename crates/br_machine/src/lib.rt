@@ -11,6 +11,7 @@ mod running;
 mod start;
 mod step;
 mod stepped;
+mod table;
 #[cfg(test)]
 mod tests;
 mod trace;
