@@ -1,17 +1,17 @@
 -- RAM as a call begins, where one word tells the leftover bytes and no memory is handed in.
 use Rattle.std.proofs.Common.{◌≡◌, ℕ, zero, suc, ◌+◌, ◌-◌, ◌*◌, ◌^◌, ◌<◌, ◌≤◌, List, [], ◌∷◌, ◌++◌, length, take, replicate, refl, sym, subst, ap, ◌∙◌, arith, length-append}
-use Rattle.std.specs.Prelude.{unwrap_or, slice_index, slice_set}
+use Rattle.std.specs.Prelude.{◌/◌, ◌%◌, Some, unwrap_or, slice_get, slice_index, slice_set}
 use Rattle.std.specs.Ordering.{nat_cmp}
 use Rattle.std.specs.FinMap as map
 use Rattle.br_bytes.specs.Number.{low_bytes}
-use Rattle.br_machine.specs.Layout.{code_base}
+use Rattle.br_machine.specs.Layout.{code_base, data_base, ram_end}
 use Rattle.br_machine.specs.State.{MachineState, IsMachine}
-use Rattle.br_machine.specs.Start.{Leftover, code_bytes, overlaid, start, start_ram, with_words}
+use Rattle.br_machine.specs.Start.{IsLeftover, code_bytes, overlaid, start, start_ram, with_words}
 use Rattle.br_machine.specs.Junk.{junk_of}
 use Rattle.std.proofs.lemmas.List.{take_all, length-replicate}
 use Rattle.std.proofs.Math.ListN.{length-set}
 use Rattle.std.specs.List.{AllByRecursion}
-use Rattle.br_machine.proofs.Ram.{length-low_bytes}
+use Rattle.br_machine.proofs.Fetch.{code_bytes-at}
 use Rattle.br_machine.proofs.Words.{all_below-set, all_below-low_bytes}
 
 pub length-code_bytes : (code : List ℕ) → length (code_bytes code) ≡ 4 * length code
@@ -111,3 +111,26 @@ IsMachine-start code args entry word few inside small fits =
     total : (code bytes : List ℕ) → length code ≤ 262144 → length bytes ≡ 2097152 → length (code_bytes code ++ replicate (1048576 - 4 * length code) 0) + length bytes ≡ 3145728
     total code bytes few h =
         omega (arith, length-append (code_bytes code) (replicate (1048576 - 4 * length code) 0), length-code_bytes code, length-replicate {A = ℕ} (1048576 - 4 * length code) 0)
+
+-- ---- the contents that a word tells
+
+slice_get-replicate : (n j word : ℕ) → j < n → slice_get (replicate n word) j ≡ Some word
+slice_get-replicate zero j word h = absurd (omega arith)
+slice_get-replicate (suc n) zero word h = refl
+slice_get-replicate (suc n) (suc j) word h = slice_get-replicate n j word (omega arith)
+
+pub byte-junk_of : (word a : ℕ) → data_base ≤ a → a < ram_end → slice_index (junk_of word).bytes (a - data_base) ≡ slice_index (low_bytes 4 word) (a % 4)
+byte-junk_of word a from to =
+    let j : ℕ = (a - data_base) / 4 in
+    let place : a - data_base ≡ 4 * j + a % 4 = omega arith in
+    ap (λ xs. slice_index xs (a - data_base)) (bytes-junk_of word)
+    ∙ ap (slice_index (code_bytes (replicate 524288 word))) place
+    ∙ code_bytes-at (replicate 524288 word) j word (a % 4) (slice_get-replicate 524288 j word (omega arith)) (omega arith)
+
+pub IsLeftover-junk_of : (word : ℕ) → word < 2 ^ 32 → IsLeftover (junk_of word)
+IsLeftover-junk_of word fits = record {
+  registers = ap length (registers-junk_of word) ∙ length-replicate 32 word;
+  words = subst (AllByRecursion (λ x. x < 2 ^ 32)) (sym (registers-junk_of word)) (all_below-replicate (2 ^ 32) 32 word fits);
+  bytes = ap length (bytes-junk_of word) ∙ length-code_bytes (replicate 524288 word) ∙ ap (λ n. 4 * n) (length-replicate 524288 word);
+  small = subst (AllByRecursion (λ b. b < 256)) (sym (bytes-junk_of word)) (all_below-code_bytes (replicate 524288 word));
+}

@@ -3,31 +3,32 @@
 ghost use Rattle.std.specs.Prelude.{◌≡◌, ◌^◌, ◌<◌};
 ghost use Rattle.br_machine.specs.Arithmetic.{reg_value, imm_value, shift_value, is_taken, upper_half, signed_quotient, signed_remainder};
 
+use crate::table::by_operation;
 use br_rv32im::{BranchOp, ImmOp, RegOp, ShiftOp};
 
 /// What a word and a word give.
 pub(crate) fn reg_value(op: RegOp, a: u32, b: u32) -> u32
     ensures { result ≡ reg_value op a b }
 {
-    match op {
-        RegOp::Add => a.wrapping_add(b),
-        RegOp::Sub => a.wrapping_sub(b),
-        RegOp::Sll => a << (b % 32),
-        RegOp::Slt => (a.cast_signed() < b.cast_signed()) as u32,
-        RegOp::Sltu => (a < b) as u32,
-        RegOp::Xor => a ^ b,
-        RegOp::Srl => a >> (b % 32),
-        RegOp::Sra => (a.cast_signed() >> (b % 32)).cast_unsigned(),
-        RegOp::Or => a | b,
-        RegOp::And => a & b,
-        RegOp::Mul => a.wrapping_mul(b),
-        RegOp::Mulh => upper_half(i64::from(a.cast_signed()) * i64::from(b.cast_signed())),
-        RegOp::Mulhsu => upper_half(i64::from(a.cast_signed()) * i64::from(b)),
-        RegOp::Mulhu => (u64::from(a) * u64::from(b) >> 32) as u32,
-        RegOp::Div => signed_quotient(a, b),
-        RegOp::Divu => if b == 0 { u32::MAX } else { a / b },
-        RegOp::Rem => signed_remainder(a, b),
-        RegOp::Remu => if b == 0 { a } else { a % b },
+    by_operation! { RegOp, op;
+        Add => a.wrapping_add(b),
+        Sub => a.wrapping_sub(b),
+        Sll => a << (b % 32),
+        Slt => (a.cast_signed() < b.cast_signed()) as u32,
+        Sltu => (a < b) as u32,
+        Xor => a ^ b,
+        Srl => a >> (b % 32),
+        Sra => (a.cast_signed() >> (b % 32)).cast_unsigned(),
+        Or => a | b,
+        And => a & b,
+        Mul => a.wrapping_mul(b),
+        Mulh => upper_half(i64::from(a.cast_signed()) * i64::from(b.cast_signed())),
+        Mulhsu => upper_half(i64::from(a.cast_signed()) * i64::from(b)),
+        Mulhu => (u64::from(a) * u64::from(b) >> 32) as u32,
+        Div => signed_quotient(a, b),
+        Divu => if b == 0 { u32::MAX } else { a / b },
+        Rem => signed_remainder(a, b),
+        Remu => if b == 0 { a } else { a % b },
     }
 }
 
@@ -68,13 +69,13 @@ fn signed_remainder(a: u32, b: u32) -> u32
 pub(crate) fn imm_value(op: ImmOp, a: u32, imm: u32) -> u32
     ensures { result ≡ imm_value op a imm }
 {
-    match op {
-        ImmOp::Addi => reg_value(RegOp::Add, a, imm),
-        ImmOp::Slti => reg_value(RegOp::Slt, a, imm),
-        ImmOp::Sltiu => reg_value(RegOp::Sltu, a, imm),
-        ImmOp::Xori => reg_value(RegOp::Xor, a, imm),
-        ImmOp::Ori => reg_value(RegOp::Or, a, imm),
-        ImmOp::Andi => reg_value(RegOp::And, a, imm),
+    by_operation! { ImmOp, op;
+        Addi => reg_value(RegOp::Add, a, imm),
+        Slti => reg_value(RegOp::Slt, a, imm),
+        Sltiu => reg_value(RegOp::Sltu, a, imm),
+        Xori => reg_value(RegOp::Xor, a, imm),
+        Ori => reg_value(RegOp::Or, a, imm),
+        Andi => reg_value(RegOp::And, a, imm),
     }
 }
 
@@ -83,10 +84,10 @@ pub(crate) fn shift_value(op: ShiftOp, a: u32, amount: u32) -> u32
     requires { amount < 32 }
     ensures { result ≡ shift_value op a amount }
 {
-    match op {
-        ShiftOp::Slli => a << amount,
-        ShiftOp::Srli => a >> amount,
-        ShiftOp::Srai => (a.cast_signed() >> amount).cast_unsigned(),
+    by_operation! { ShiftOp, op;
+        Slli => a << amount,
+        Srli => a >> amount,
+        Srai => (a.cast_signed() >> amount).cast_unsigned(),
     }
 }
 
@@ -94,12 +95,12 @@ pub(crate) fn shift_value(op: ShiftOp, a: u32, amount: u32) -> u32
 pub(crate) fn is_taken(op: BranchOp, a: u32, b: u32) -> bool
     ensures { result ≡ is_taken op a b }
 {
-    match op {
-        BranchOp::Beq => a == b,
-        BranchOp::Bne => a != b,
-        BranchOp::Blt => a.cast_signed() < b.cast_signed(),
-        BranchOp::Bge => a.cast_signed() >= b.cast_signed(),
-        BranchOp::Bltu => a < b,
-        BranchOp::Bgeu => a >= b,
+    by_operation! { BranchOp, op;
+        Beq => a == b,
+        Bne => a != b,
+        Blt => a.cast_signed() < b.cast_signed(),
+        Bge => a.cast_signed() >= b.cast_signed(),
+        Bltu => a < b,
+        Bgeu => a >= b,
     }
 }

@@ -10,6 +10,7 @@ use crate::arithmetic::{imm_value, is_taken, reg_value, shift_value};
 use crate::layout::CODE_BASE;
 use crate::machine::Machine;
 use crate::stepped::Stepped;
+use crate::table::by_operation;
 use crate::traps::{in_ram, load_size, store_size};
 use br_rv32im::{BranchOp, Ins, LoadOp, StoreOp, UpperOp};
 
@@ -46,9 +47,9 @@ impl Machine {
         ensures end { result ≡ Stepped.Ran }
     {
         let high = field * 4096;
-        let v = match op {
-            UpperOp::Lui => high,
-            UpperOp::Auipc => self.pc().wrapping_add(high),
+        let v = by_operation! { UpperOp, op;
+            Lui => high,
+            Auipc => self.pc().wrapping_add(high),
         };
         self.compute(rd, v);
         Stepped::Ran

@@ -1,9 +1,14 @@
 // Laws of the machine's step. Each function does nothing: what it ensures is the law.
 
-ghost use Rattle.std.specs.Prelude.{◌≡◌, ℕ, ◌*◌, Option, IfSome, take};
+ghost use Rattle.std.specs.Prelude.{◌≡◌, ℕ, ◌+◌, ◌-◌, ◌*◌, ◌%◌, ◌<◌, ◌≤◌, Option, IfSome, slice_index, take};
+ghost use Rattle.br_bytes.specs.Number.{low_bytes};
 ghost use Rattle.br_words.specs.Words.{IsWord};
 ghost use Rattle.br_machine.specs.State.{MachineState, IsMachine, register};
+ghost use Rattle.br_machine.specs.Layout.{data_base, ram_end};
 ghost use Rattle.br_machine.specs.Step.{step};
+ghost use Rattle.br_machine.specs.Steps.{Moment, after_steps};
+ghost use Rattle.br_machine.specs.Start.{IsLeftover};
+ghost use Rattle.br_machine.specs.Junk.{junk_of};
 
 use crate::stepped::{Stepped, Trap};
 use br_rv32im::instructions_and_words_match;
@@ -39,3 +44,17 @@ pub fn steps_make_machines()
 {
     instructions_and_words_match();
 }
+
+/// Steps add up: the steps of a second stretch go on from the moment at which the first ended.
+pub fn steps_add_up()
+    ensures { (first second : ℕ) (m : Moment) →
+        after_steps (second + first) m ≡ after_steps second (after_steps first m) }
+{}
+
+/// The contents that one word tells are contents that a machine may hold, and the byte at an address
+/// is the word's byte there, modulo 4, the lowest first.
+pub fn junk_repeats_a_word()
+    ensures leftover { (word : ℕ) → IsWord word → IsLeftover (junk_of word) }
+    ensures bytes { (word a : ℕ) → data_base ≤ a → a < ram_end →
+        slice_index (junk_of word).bytes (a - data_base) ≡ slice_index (low_bytes 4 word) (a % 4) }
+{}

@@ -11,13 +11,15 @@ mod running;
 mod start;
 mod step;
 mod stepped;
+mod table;
 #[cfg(test)]
 mod tests;
 mod trace;
 mod traps;
 
 pub use laws::{
-    register_0_reads_0, steps_keep_the_code, steps_make_machines, steps_that_end_change_nothing,
+    junk_repeats_a_word, register_0_reads_0, steps_add_up, steps_keep_the_code,
+    steps_make_machines, steps_that_end_change_nothing,
 };
 pub use machine::Machine;
 pub use running::{End, run};

@@ -63,6 +63,14 @@ impl Machine {
         }
     }
 
+    /// Each machine has 32 registers that are words, a pc that is one, RAM of 3,145,728 bytes, and at
+    /// most 262,144 words of code. This does nothing: what it ensures is the law.
+    pub fn well_formed(&self)
+        ensures { IsMachine self.now }
+    {
+        let _ = &self.pc;
+    }
+
     /// What register `r` reads as, `r` below 32; register 0 reads 0 (RISC-V unprivileged manual,
     /// chapter 2.1).
     pub fn register(&self, r: u32) -> u32

@@ -8,6 +8,7 @@ ghost use Rattle.br_machine.specs.Effects.{loaded};
 
 use crate::layout::RAM_SIZE;
 use crate::machine::Machine;
+use crate::table::by_operation;
 use br_rv32im::{LoadOp, StoreOp};
 use br_words::sext;
 
@@ -32,12 +33,12 @@ impl Machine {
         requires { place + load_size op ≤ RAM_SIZE }
         ensures { result ≡ loaded op (number_of (bytes_from self.now.ram place (load_size op))) }
     {
-        match op {
-            LoadOp::Lb => sext::<8>(self.byte_at(place)),
-            LoadOp::Lh => sext::<16>(self.half_at(place)),
-            LoadOp::Lw => self.word_at(place),
-            LoadOp::Lbu => self.byte_at(place),
-            LoadOp::Lhu => self.half_at(place),
+        by_operation! { LoadOp, op;
+            Lb => sext::<8>(self.byte_at(place)),
+            Lh => sext::<16>(self.half_at(place)),
+            Lw => self.word_at(place),
+            Lbu => self.byte_at(place),
+            Lhu => self.half_at(place),
         }
     }
 
@@ -64,10 +65,10 @@ impl Machine {
           ram = with_bytes_from self.old.ram place (low_bytes (store_size op) v);
         } }
     {
-        match op {
-            StoreOp::Sb => self.set_byte(place, v),
-            StoreOp::Sh => self.set_half(place, v),
-            StoreOp::Sw => self.set_word(place, v),
+        by_operation! { StoreOp, op;
+            Sb => self.set_byte(place, v),
+            Sh => self.set_half(place, v),
+            Sw => self.set_word(place, v),
         }
     }
 }

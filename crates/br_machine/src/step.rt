@@ -1,14 +1,15 @@
 // One step of the machine.
 
-ghost use Rattle.std.specs.Prelude.{◌≡◌, ◌+◌, ◌≤◌};
+ghost use Rattle.std.specs.Prelude.{◌≡◌, ℕ, ◌+◌, ◌≤◌};
 ghost use Rattle.std.specs.Bool.{OnTrue};
 ghost use Rattle.br_machine.specs.Layout.{code_base, ram_end};
 ghost use Rattle.br_machine.specs.Step.{is_in_code, fetched, step};
 
+use crate::laws::steps_that_end_change_nothing;
 use crate::layout::CODE_BASE;
 use crate::machine::Machine;
 use crate::stepped::{Stepped, Trap};
-use br_rv32im::{decode, instructions_and_words_match};
+use br_rv32im::decode;
 
 impl Machine {
     // Whether pc is the address of a byte of the code.
@@ -41,14 +42,20 @@ impl Machine {
     pub fn step(&mut self, next_answer: Option<u32>) -> Stepped
         ensures machine { self.new ≡ (step self.old next_answer).0 }
         ensures end { result ≡ (step self.old next_answer).1 }
+
+        ensures waiting { (a : ℕ) → result ≡ Stepped.Waiting a → self.new ≡ self.old }
+        ensures halted { result ≡ Stepped.Halted → self.new ≡ self.old }
+        ensures trapped { (trap : Trap) (pc : ℕ) →
+            result ≡ Stepped.Trapped trap pc → self.new ≡ self.old }
     {
+        // The last three clauses are this law.
+        steps_that_end_change_nothing();
         if !self.is_in_code() {
             return self.trapped(Trap::FetchOutside);
         }
         let Some(i) = decode(self.fetched()) else {
             return self.trapped(Trap::Illegal);
         };
-        instructions_and_words_match();
         match self.trap_of(i) {
             Some(trap) => self.trapped(trap),
             None => self.effect(i, next_answer),

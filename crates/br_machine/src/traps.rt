@@ -9,6 +9,7 @@ use crate::arithmetic::is_taken;
 use crate::layout::{CODE_BASE, RAM_END};
 use crate::machine::Machine;
 use crate::stepped::Trap;
+use crate::table::by_operation;
 use br_rv32im::{Ins, LoadOp, StoreOp};
 
 /// How many bytes a load moves.
@@ -16,10 +17,12 @@ pub(crate) fn load_size(op: LoadOp) -> u32
     ensures value { result ≡ load_size op }
     ensures small { result ≤ 4 }
 {
-    match op {
-        LoadOp::Lb | LoadOp::Lbu => 1,
-        LoadOp::Lh | LoadOp::Lhu => 2,
-        LoadOp::Lw => 4,
+    by_operation! { LoadOp, op;
+        Lb => 1,
+        Lbu => 1,
+        Lh => 2,
+        Lhu => 2,
+        Lw => 4,
     }
 }
 
@@ -28,10 +31,10 @@ pub(crate) fn store_size(op: StoreOp) -> u32
     ensures value { result ≡ store_size op }
     ensures small { result ≤ 4 }
 {
-    match op {
-        StoreOp::Sb => 1,
-        StoreOp::Sh => 2,
-        StoreOp::Sw => 4,
+    by_operation! { StoreOp, op;
+        Sb => 1,
+        Sh => 2,
+        Sw => 4,
     }
 }
 

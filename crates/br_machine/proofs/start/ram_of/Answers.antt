@@ -1,5 +1,5 @@
 -- The pushes, one behind another.
-use Rattle.std.proofs.Common.{◌≡◌, ◌++◌, ap, ◌∙◌, refl, length, vec_len}
+use Rattle.std.proofs.Common.{◌++◌, ap, ◌∙◌, vec_len}
 use Rattle.br_machine.specs.Start.{code_bytes}
 use Rattle.br_machine.proofs.Leftovers.{start_ram-from}
 use Rattle.br_machine.proofs.start.ram_of.Goals as goal

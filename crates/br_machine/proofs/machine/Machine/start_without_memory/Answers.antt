@@ -1,6 +1,6 @@
 -- The parts are those of the start, which is a machine.
-use Rattle.std.proofs.Common.{◌≡◌, length, sym, subst, ◌∙◌, refl, arith}
-use Rattle.br_machine.specs.State.{MachineState, IsMachine}
+use Rattle.std.proofs.Common.{length, sym, subst, ◌∙◌, refl}
+use Rattle.br_machine.specs.State.{IsMachine}
 use Rattle.br_machine.proofs.Leftovers.{IsMachine-start, all_below-at, same_start}
 use Rattle.br_machine.proofs.machine.Machine.start_without_memory.Goals as goal
 
