@@ -6,6 +6,8 @@ mod images;
 mod laws;
 mod refusal;
 mod sums;
+#[cfg(test)]
+mod tests;
 mod unbuilt;
 mod writes;
 
