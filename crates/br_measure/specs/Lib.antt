@@ -1,5 +1,6 @@
 pub mod Bulk
-pub mod Paths
+pub mod Lowest
 pub mod Measure
 pub mod Names
-pub mod Lowest
+pub mod Paths
+pub mod Table

@@ -2,11 +2,13 @@
 #![tactic(auto)]
 
 mod bulk;
+mod calls;
 mod fault;
 mod index;
 mod lowest;
 mod names;
 mod nested;
+mod paths;
 
 pub use bulk::bulk_of;
 pub use fault::NameFault;
