@@ -6,3 +6,4 @@ pub mod Marking
 pub mod Numbered
 pub mod Positions
 pub mod Reach
+pub mod Rounds

@@ -6,6 +6,7 @@ mod calls;
 mod fault;
 mod index;
 mod lowest;
+mod measures;
 mod names;
 mod nested;
 mod paths;
