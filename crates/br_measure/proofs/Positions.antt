@@ -38,6 +38,9 @@ module _ {X : Type 0} where
       let n = position_or_len p xs in
       find_at p xs ∙ slice_get_past xs n (ltb-false n (length xs) (not_picked (ltb n (length xs)) n e))
 
+  pub no_position : (p : X → Bool) (xs : List X) → position p xs ≡ None → length xs ≤ position_or_len p xs
+  no_position p xs e = ltb-false (position_or_len p xs) (length xs) (not_picked (ltb (position_or_len p xs) (length xs)) (position_or_len p xs) e)
+
   pub finds_position : (p : X → Bool) (xs : List X) → is_some (find p xs) ≡ is_some (position p xs)
   finds_position p xs = ap is_some (find_at p xs) ∙ stands xs (position_or_len p xs)
 
