@@ -30,10 +30,16 @@ module _ {X : Type 0} where
       let same : position_or_len p xs ≡ i = picked (ltb (position_or_len p xs) (length xs)) (position_or_len p xs) i e in
       find_at p xs ∙ (rw same (slice_get-get_or xs i d (position-Some p xs i d e).0))
 
+  pub find_at_position : (p : X → Bool) (xs : List X) (i : ℕ) → position p xs ≡ Some i → find p xs ≡ slice_get xs i
+  find_at_position p xs i e = find_at p xs ∙ ap (slice_get xs) (picked (ltb (position_or_len p xs) (length xs)) (position_or_len p xs) i e)
+
   pub find_no_position : (p : X → Bool) (xs : List X) → position p xs ≡ None → find p xs ≡ None
   find_no_position p xs e =
       let n = position_or_len p xs in
       find_at p xs ∙ slice_get_past xs n (ltb-false n (length xs) (not_picked (ltb n (length xs)) n e))
+
+  pub no_position : (p : X → Bool) (xs : List X) → position p xs ≡ None → length xs ≤ position_or_len p xs
+  no_position p xs e = ltb-false (position_or_len p xs) (length xs) (not_picked (ltb (position_or_len p xs) (length xs)) (position_or_len p xs) e)
 
   pub finds_position : (p : X → Bool) (xs : List X) → is_some (find p xs) ≡ is_some (position p xs)
   finds_position p xs = ap is_some (find_at p xs) ∙ stands xs (position_or_len p xs)

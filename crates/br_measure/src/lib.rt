@@ -2,11 +2,17 @@
 #![tactic(auto)]
 
 mod bulk;
+mod calls;
+mod checking;
 mod fault;
 mod index;
 mod lowest;
+mod measures;
 mod names;
 mod nested;
+mod paths;
+mod phases;
 
 pub use bulk::bulk_of;
+pub use checking::{Checked, check};
 pub use fault::NameFault;
