@@ -5,3 +5,4 @@ mod Writing
 mod Whole
 mod Assembled
 mod Fronts
+mod Built

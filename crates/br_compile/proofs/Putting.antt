@@ -36,7 +36,7 @@ puts_both (Some a) None last old c1 c2 c3 c4 c5 e1 e2 e3 e4 e5 = absurd e3
 puts_both None eb last old c1 c2 c3 c4 c5 e1 e2 e3 e4 e5 = absurd e1
 
 -- the code of an operation
-code_of_operation : (o : BinOp) (a b : Expr) → expression_code (expr.Op o a b) ≡ operation_code o (expression_code a) (expression_code b)
+pub code_of_operation : (o : BinOp) (a b : Expr) → expression_code (expr.Op o a b) ≡ operation_code o (expression_code a) (expression_code b)
 code_of_operation o a b = ap expression_code (sym (expr.rolls-Op o a b)) ∙ fold-roll-Expr (Option (List Ins)) expression_step (Expr-F.Op o a b)
 
 -- a sum whose parts were put

@@ -3,3 +3,4 @@ pub mod SumCode
 pub mod Puts
 pub mod Refusal
 pub mod FirstSteps
+pub mod Unbuilt
