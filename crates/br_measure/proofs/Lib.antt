@@ -1,5 +1,6 @@
 pub mod CalleeParts
 pub mod CommandFaults
+pub mod FoundFaults
 pub mod Largest
 pub mod LowestParts
 pub mod Marking
@@ -7,3 +8,4 @@ pub mod Numbered
 pub mod Positions
 pub mod Reach
 pub mod Rounds
+pub mod TablePaths

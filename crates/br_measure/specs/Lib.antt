@@ -1,6 +1,9 @@
 pub mod Bulk
+pub mod Examination
+pub mod Faults
 pub mod Lowest
 pub mod Measure
+pub mod Measured
 pub mod Names
 pub mod Paths
 pub mod Table

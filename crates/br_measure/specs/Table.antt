@@ -35,6 +35,6 @@ abbrev pub IsTable : List (List ℕ) → Type 0
 IsTable table = (f g : ℕ) → has (row table f) g ≡ true → g < length table
 
 -- the first function that has a path to itself, or none where none has one
-abbrev pub IsFirstRecursive : List (List ℕ) → Option ℕ → Type 0
-IsFirstRecursive table None = (f : ℕ) → Leads table f f → ⊥
-IsFirstRecursive table (Some f) = Leads table f f × ((g : ℕ) → g < f → Leads table g g → ⊥)
+abbrev pub IsFirstLoop : List (List ℕ) → Option ℕ → Type 0
+IsFirstLoop table None = (f : ℕ) → Leads table f f → ⊥
+IsFirstLoop table (Some f) = Leads table f f × ((g : ℕ) → g < f → Leads table g g → ⊥)

@@ -3,6 +3,7 @@
 
 mod bulk;
 mod calls;
+mod checking;
 mod fault;
 mod index;
 mod lowest;
@@ -10,6 +11,8 @@ mod measures;
 mod names;
 mod nested;
 mod paths;
+mod phases;
 
 pub use bulk::bulk_of;
+pub use checking::{Checked, check};
 pub use fault::NameFault;

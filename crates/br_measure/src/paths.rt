@@ -1,7 +1,7 @@
 // Which functions a path of calls leads to.
 
 ghost use Rattle.std.specs.Prelude.{◌≡◌, ℕ, ◌<◌, ◌↔◌, length, slice_index_or, true, false, IfOk};
-ghost use Rattle.br_measure.specs.Table.{IsTable, IsFirstRecursive, Leads, row};
+ghost use Rattle.br_measure.specs.Table.{IsTable, IsFirstLoop, Leads, row};
 
 use br_base::NoMemory;
 use sqlite_items::Items;
@@ -10,7 +10,7 @@ use std::alloc::Global;
 /// The first function that has a path of calls to itself.
 pub fn first_recursive(alloc: Global, table: &[Items<usize>]) -> Result<Option<usize>, NoMemory>
     requires { IsTable table.now }
-    ensures { IfOk result (λ r. IsFirstRecursive table.now r) }
+    ensures { IfOk result (λ r. IsFirstLoop table.now r) }
 {
     for f in 0..table.len() {
         if reached(alloc, table, f)?[f] {

@@ -1,0 +1,15 @@
+use Rattle.std.proofs.Common.{◌∙◌, sym, inl, inr, arith}
+use Rattle.br_measure.proofs.FoundFaults.{lowest_is, none_lowest}
+use Rattle.br_measure.specs.Names.{name_faults}
+use Rattle.br_measure.proofs.phases.examine.Goals as goal
+
+pub returns-in-Some : goal.returns-in-Some
+returns-in-Some c = inl (lowest_is (name_faults c.args.funcs.now) c.in-Some.fault (sym c.in_ok-index.ensures.fault ∙ c.in-Some.is))
+
+pub returns-then-total-gt-LARGEST_BULK : goal.returns-then-total-gt-LARGEST_BULK
+returns-then-total-gt-LARGEST_BULK c =
+    inr (none_lowest (name_faults c.args.funcs.now) (sym c.in_ok-index.ensures.fault ∙ c.in-None.is), (omega (arith, c.requires), c.requires))
+
+pub examine_calls-requires-clause-names : goal.examine_calls-requires-clause-names
+examine_calls-requires-clause-names c =
+    rw c.in_ok-index.ensures.functions (none_lowest (name_faults c.args.funcs.now) (sym c.in_ok-index.ensures.fault ∙ c.in-None.is))
