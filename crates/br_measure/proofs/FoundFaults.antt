@@ -1,19 +1,19 @@
 -- What each phase finds is the fault of the program.
-use Rattle.std.proofs.Common.{◌≡◌, ℕ, zero, suc, ◌+◌, ◌*◌, ◌<◌, ◌≤◌, Bool, true, false, cond, ltb, leb, nat_le, List, [], ◌∷◌, Option, Some, None, min, length, get_or, map, sum, refl, sym, ap, ◌∙◌, arith, Contains, rules}
+use Rattle.std.proofs.Common.{◌≡◌, ℕ, zero, suc, ◌*◌, ◌<◌, ◌≤◌, Bool, true, false, cond, ltb, leb, List, [], ◌∷◌, Option, Some, None, min, length, get_or, map, refl, sym, ap, ◌∙◌, arith, Contains}
 use Rattle.std.proofs.lemmas.Grind.{common_steps}
 use Rattle.std.proofs.lemmas.Bool.{false≢true, ltb-true, ltb-false, lt-ltb, leb-true, leb-false}
 use Rattle.std.proofs.lemmas.List.Sums.{fails_before_first}
 use Rattle.std.proofs.lemmas.List.Quantifiers.{position-Some}
-use Rattle.std.proofs.lemmas.Option.{slice_get-get_or, slice_get_within}
-use Rattle.std.specs.List.{All, position, position_or_len, slice_get}
+use Rattle.std.proofs.lemmas.Option.{slice_get-get_or, slice_get_within, get_or_from_slice_get}
+use Rattle.std.specs.List.{All, position, slice_get}
 use Rattle.br_syntax.specs.declared.program.Func.{Func}
 use Rattle.br_measure.specs.declared.fault.NameFault.{NameFault}
-use Rattle.br_measure.specs.Bulk.{bulk, function_bulk}
+use Rattle.br_measure.specs.Bulk.{bulk}
 use Rattle.br_measure.specs.Measure.{measure}
 use Rattle.br_measure.specs.Names.{place, IsLowest}
 use Rattle.br_measure.specs.Paths.{HasNoRecursion}
 use Rattle.br_measure.specs.Lowest.{lower_of, lower, lowest}
-use Rattle.br_measure.specs.Table.{call_table, Leads, IsFirstLoop}
+use Rattle.br_measure.specs.Table.{call_table, IsFirstLoop}
 use Rattle.br_measure.specs.Faults.{IsRecursive, IsTooDeep}
 use Rattle.br_measure.proofs.Positions.{no_position}
 use Rattle.br_measure.proofs.Rounds.{get_or_map, same_items, map_length}
@@ -35,7 +35,6 @@ behind x y ys h = (suc h.0, omega (arith, h.1), h.2)
 -- a fault that stands among these and is no higher than any of them
 abbrev IsLeast : List NameFault → NameFault → Type 0
 IsLeast xs x = Contains xs x × ((k : ℕ) (d : NameFault) → k < length xs → place x ≤ place (get_or xs k d))
-
 
 first_le : (x y : NameFault) (k : ℕ) (d : NameFault) → k < length (y ∷ []) → y ≡ x → place x ≤ place (get_or (y ∷ []) k d)
 first_le x y zero d inside same = rw same (omega arith)
@@ -135,6 +134,15 @@ pub deep_at : (fs : List Func) (ms : List ℕ) → ms ≡ map (λ f. min (measur
     → IsTooDeep fs k (get_or ms k 0) × ((g t : ℕ) → g < k → IsTooDeep fs g t → ⊥)
 deep_at fs ms are k found =
     let limits : 1048576 < 4294967295 = omega arith in
-    let f = function_at fs k (found_within fs ms 4294967295 1048576 limits are k found) in
-    (record { function = f.0; at = f.1; bytes = found_bytes fs ms 4294967295 1048576 limits are k f.0 f.1; above = found_above fs ms 4294967295 1048576 limits are k f.0 found f.1 },
-     λ g t below deep. none_earlier fs ms 4294967295 1048576 limits are k found g deep.function below deep.at deep.above)
+    let f = function_at fs k (found_within fs ms 4294967295 1048576 limits are k found) in (
+      record { function = f.0; at = f.1; bytes = found_bytes fs ms 4294967295 1048576 limits are k f.0 f.1; above = found_above fs ms 4294967295 1048576 limits are k f.0 found f.1 },
+      λ g t below deep. none_earlier fs ms 4294967295 1048576 limits are k found g deep.function below deep.at deep.above,
+    )
+
+-- measures that are kept are within the limit
+pub kept_within : (fs : List Func) (ms : List ℕ) (k : ℕ) → All (λ f. measure fs f ≤ 1048576) fs → ms ≡ map (measure fs) fs → k < length fs → get_or ms k 0 ≤ 1048576
+kept_within fs ms k shallow are inside =
+    let f = function_at fs k inside in
+    let here : get_or ms k 0 ≡ measure fs f.0 = ap (λ ns. get_or ns k 0) are ∙ get_or_map (measure fs) fs k f.0 0 f.1 in
+    let same = get_or_from_slice_get fs k f.0 f.0 f.1 in
+    omega (arith, here, ap (measure fs) same, shallow k f.0 inside)

@@ -1,5 +1,5 @@
 -- The largest of numbers, one item at a time.
-use Rattle.std.proofs.Common.{◌≡◌, ℕ, zero, suc, ◌+◌, ◌<◌, List, [], ◌∷◌, map, max, length, get_or, drop, arith}
+use Rattle.std.proofs.Common.{◌≡◌, ℕ, ◌+◌, ◌<◌, List, map, max, length, get_or, drop, arith}
 use Rattle.std.proofs.lemmas.Grind.{common_steps}
 use Rattle.br_measure.specs.Measure.{largest}
 

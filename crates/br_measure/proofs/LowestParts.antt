@@ -1,8 +1,8 @@
 -- The lowest of faults in parts.
-use Rattle.std.proofs.Common.{◌≡◌, ℕ, ◌≤◌, List, [], ◌∷◌, ◌++◌, Bool, true, false, cond, nat_le, Option, Some, None, ◌+◌, ◌<◌, length, get_or, drop, map, refl, sym, ap, ◌∙◌, arith}
+use Rattle.std.proofs.Common.{◌≡◌, ℕ, List, [], ◌∷◌, ◌++◌, Option, Some, None, ◌+◌, ◌<◌, length, get_or, drop, map, refl, ap, ◌∙◌, arith}
 use Rattle.std.proofs.lemmas.Grind.{common_steps}
 use Rattle.br_measure.specs.declared.fault.NameFault.{NameFault}
-use Rattle.br_measure.specs.Names.{place, joined}
+use Rattle.br_measure.specs.Names.{joined}
 use Rattle.br_measure.specs.Lowest.{lower_of, lower, lowest}
 
 pub lower_of_assoc : (f g h : NameFault) → lower_of f (lower_of g h) ≡ lower_of (lower_of f g) h

@@ -1,5 +1,5 @@
 -- One turn of the search: the last function that is left is taken, and marked where it was not.
-use Rattle.std.proofs.Common.{◌≡◌, ◌≢◌, ℕ, zero, suc, ◌+◌, ◌-◌, ◌*◌, ◌<◌, ◌≤◌, ◌⊎◌, Bool, true, false, ◌||◌, cond, eqb, List, [], ◌∷◌, ◌++◌, max, length, get_or, set, map, refl, sym, ap, ◌∙◌, subst, arith, inl, inr, ⊎_elim}
+use Rattle.std.proofs.Common.{◌≡◌, ℕ, zero, suc, ◌+◌, ◌*◌, ◌<◌, ◌⊎◌, Bool, true, false, ◌||◌, eqb, List, [], ◌∷◌, ◌++◌, length, get_or, set, map, refl, sym, ap, ◌∙◌, arith, inl, inr, ⊎_elim}
 use Rattle.std.proofs.lemmas.Grind.{common_steps}
 use Rattle.std.proofs.lemmas.Bool.{false≢true, cases_eq, or_cases, or_left, or_right, eq-eqb, eqb-true}
 use Rattle.std.proofs.lemmas.List.{get_or-set_same, get_or-set_other}
@@ -54,7 +54,7 @@ module _ (t : List (List ℕ)) (f : ℕ) (seen : List Bool) (left rest : List �
     kept_known k h =
         ⊎_elim (λ e. or_left (get_or seen k false) (has rest k) e)
         (λ e. ⊎_elim (λ r. or_right (get_or seen k false) (has rest k) r)
-          (λ (same : k ≡ g). or_left (get_or seen k false) (has rest k) (rw same known)) (split k e))
+        (λ (same : k ≡ g). or_left (get_or seen k false) (has rest k) (rw same known)) (split k e))
         (or_cases (get_or seen k false) (has left k) h)
 
     pub left_known : ((k : ℕ) → has left k ≡ true → Leads t f k) → (k : ℕ) → has rest k ≡ true → Leads t f k
@@ -88,7 +88,7 @@ module _ (t : List (List ℕ)) (f : ℕ) (seen : List Bool) (left rest : List �
     kept_new k h =
         ⊎_elim (λ e. or_left (get_or (set seen g true) k false) (has (rest ++ row t g) k) (still k e))
         (λ e. ⊎_elim (λ r. more k r)
-          (λ (same : k ≡ g). or_left (get_or (set seen g true) k false) (has (rest ++ row t g) k) (rw same marked)) (split k e))
+        (λ (same : k ≡ g). or_left (get_or (set seen g true) k false) (has (rest ++ row t g) k) (rw same marked)) (split k e))
         (or_cases (get_or seen k false) (has left k) h)
 
     pub closed_new : ((h : ℕ) → get_or seen h false ≡ true → (k : ℕ) → has (row t h) k ≡ true → (get_or seen k false || has left k) ≡ true)
@@ -96,8 +96,8 @@ module _ (t : List (List ℕ)) (f : ℕ) (seen : List Bool) (left rest : List �
     closed_new closed h marks k call =
         ⊎_elim
         (λ (same : h ≡ g).
-          let here : has (row t g) k ≡ true = ap (λ (n : ℕ). has (row t n) k) (sym same) ∙ call in
-          or_right (get_or (set seen g true) k false) (has (rest ++ row t g) k) (has_append rest (row t g) k ∙ or_right (has rest k) (has (row t g) k) here))
+        let here : has (row t g) k ≡ true = ap (λ (n : ℕ). has (row t n) k) (sym same) ∙ call in
+        or_right (get_or (set seen g true) k false) (has (rest ++ row t g) k) (has_append rest (row t g) k ∙ or_right (has rest k) (has (row t g) k) here))
         (λ ne. kept_new k (closed h (sym (marks_other h ne) ∙ marks) k call))
         (cases_eq h g)
 
@@ -115,5 +115,5 @@ pub none_left : (t : List (List ℕ)) (f : ℕ) (seen : List Bool) (left : List 
     → (g : ℕ) → Leads t f g → get_or seen g false ≡ true
 none_left t f seen left empty first closed g l =
     let marked : (k : ℕ) → (get_or seen k false || has left k) ≡ true → get_or seen k false ≡ true =
-        λ k h. ⊎_elim (λ e. e) (λ e. absurd (false≢true (ap (λ ns. has ns k) (sym empty) ∙ e))) (or_cases (get_or seen k false) (has left k) h) in
+    λ k h. ⊎_elim (λ e. e) (λ e. absurd (false≢true (ap (λ ns. has ns k) (sym empty) ∙ e))) (or_cases (get_or seen k false) (has left k) h) in
     path_stays t (λ k. get_or seen k false) (λ h s k call. marked k (closed h s k call)) f (λ k call. marked k (first k call)) l.0 g l.1

@@ -1,7 +1,7 @@
 -- The first item that passes a test, and its place.
-use Rattle.std.proofs.Common.{◌≡◌, ℕ, ◌+◌, ◌<◌, ◌≤◌, List, [], ◌∷◌, ◌++◌, Bool, true, false, not, cond, Option, Some, None, is_some, length, get_or, refl, sym, ap, ◌∙◌, arith, ltb}
+use Rattle.std.proofs.Common.{◌≡◌, ℕ, ◌+◌, ◌<◌, ◌≤◌, List, [], ◌∷◌, ◌++◌, Bool, true, false, not, cond, Some, None, is_some, length, get_or, refl, ap, ◌∙◌, arith, ltb}
 use Rattle.std.proofs.lemmas.Grind.{common_steps}
-use Rattle.std.proofs.lemmas.Bool.{ltb-false}
+use Rattle.std.proofs.lemmas.Bool.{ltb-true, ltb-false}
 use Rattle.std.proofs.lemmas.Bool.Decides.{nat_tests}
 use Rattle.std.proofs.lemmas.List.{length_push}
 use Rattle.std.proofs.lemmas.List.Folds.{find_at, position_or_len_push}
@@ -13,6 +13,10 @@ use Rattle.std.specs.List.{find, position, position_or_len, slice_get}
 picked : (b : Bool) (n i : ℕ) → cond b (Some n) None ≡ Some i → n ≡ i
 picked true n i e = cc
 picked false n i e = cc
+
+picked_true : (b : Bool) (n i : ℕ) → cond b (Some n) None ≡ Some i → b ≡ true
+picked_true true n i e = refl
+picked_true false n i e = cc
 
 not_picked : (b : Bool) (n : ℕ) → cond b (Some n) None ≡ None → b ≡ false
 not_picked true n e = cc
@@ -29,6 +33,11 @@ module _ {X : Type 0} where
   find_position p xs i d e =
       let same : position_or_len p xs ≡ i = picked (ltb (position_or_len p xs) (length xs)) (position_or_len p xs) i e in
       find_at p xs ∙ (rw same (slice_get-get_or xs i d (position-Some p xs i d e).0))
+
+  pub position_within : (p : X → Bool) (xs : List X) (i : ℕ) → position p xs ≡ Some i → i < length xs
+  position_within p xs i e =
+      let n = position_or_len p xs in
+      omega (arith, ltb-true n (length xs) (picked_true (ltb n (length xs)) n i e), picked (ltb n (length xs)) n i e)
 
   pub find_at_position : (p : X → Bool) (xs : List X) (i : ℕ) → position p xs ≡ Some i → find p xs ≡ slice_get xs i
   find_at_position p xs i e = find_at p xs ∙ ap (slice_get xs) (picked (ltb (position_or_len p xs) (length xs)) (position_or_len p xs) i e)

@@ -1,11 +1,8 @@
 -- Numbers that stand among numbers, and where paths lead.
-use Rattle.std.proofs.Common.{◌≡◌, ℕ, zero, suc, ◌+◌, ◌-◌, ◌*◌, ◌<◌, ◌≤◌, Bool, true, false, ◌||◌, cond, eqb, List, [], ◌∷◌, ◌++◌, max, length, get_or, set, map, refl, sym, ap, ◌∙◌, subst, arith, not}
-use Rattle.std.proofs.lemmas.Grind.{common_steps}
-use Rattle.std.proofs.lemmas.Bool.Decides.{nat_tests}
+use Rattle.std.proofs.Common.{◌≡◌, ℕ, zero, suc, ◌≤◌, Bool, true, ◌||◌, eqb, List, [], ◌∷◌, ◌++◌, length, map, arith}
 use Rattle.std.proofs.lemmas.List.Folds.{list_any-append}
-use Rattle.std.specs.List.{list_any}
 use Rattle.br_measure.specs.Measure.{largest}
-use Rattle.br_measure.specs.Table.{row, has, TablePath, Leads, IsTable}
+use Rattle.br_measure.specs.Table.{row, has, TablePath, Leads}
 
 pub has_append : (xs ys : List ℕ) (n : ℕ) → has (xs ++ ys) n ≡ (has xs n || has ys n)
 has_append xs ys n = list_any-append (λ m. eqb n m) xs ys

@@ -7,7 +7,7 @@ use Rattle.std.specs.Str.{bytes_eq}
 use Rattle.br_syntax.specs.declared.program.Func.{Func}
 use Rattle.br_syntax.specs.Functions.{function_named, number_named}
 use Rattle.br_measure.specs.Bulk.{function_bulk}
-use Rattle.br_measure.specs.Measure.{nested_buffers, measure, measure_within, largest}
+use Rattle.br_measure.specs.Measure.{nested_buffers, measure_within, largest}
 use Rattle.br_measure.specs.Paths.{callees}
 use Rattle.br_measure.specs.Table.{numbers_named, call_table, row}
 use Rattle.br_measure.proofs.Positions.{find_at_position, find_no_position}
@@ -73,25 +73,25 @@ module _ (fs : List Func) (own needs after : List ℕ) (depth cap : ℕ)
     (needs_are : (f : ℕ) → get_or needs f 0 ≡ min (needs_at depth fs f) cap)
     (len : length after ≡ length fs)
     (round : (f : ℕ) → f < length fs → get_or after f 0 ≡ min (get_or own f 0 + largest (map (λ g. get_or needs g 0) (row (call_table fs) f))) cap)
-    where
-  at_function : (f : ℕ) (caller : Func) → slice_get fs f ≡ Some caller → get_or after f 0 ≡ min (measure_within (depth + 1) fs (Some caller)) cap
-  at_function f caller is =
-      let inside = slice_get_within fs f caller is in
-      let its_own : get_or own f 0 ≡ min (4 * function_bulk caller + 256 + nested_buffers caller) cap = ap (λ ns. get_or ns f 0) own_is ∙ get_or_map (λ g. min (4 * function_bulk g + 256 + nested_buffers g) cap) fs f caller 0 is in
-      let its_row : row (call_table fs) f ≡ numbers_named fs (callees caller) = get_or_map (λ g. numbers_named fs (callees g)) fs f caller [] is in
-      let of_callees : largest (map (λ g. get_or needs g 0) (row (call_table fs) f)) ≡ min (largest (map (λ x. measure_within depth fs (function_named fs x)) (callees caller))) cap =
-          ap (λ ns. largest (map (λ g. get_or needs g 0) ns)) its_row
-          ∙ ap largest (map_same (λ g. get_or needs g 0) (λ g. min (needs_at depth fs g) cap) needs_are (numbers_named fs (callees caller)))
-          ∙ largest_capped (needs_at depth fs) cap (numbers_named fs (callees caller))
-          ∙ ap (λ (n : ℕ). min n cap) (callee_needs depth fs (callees caller)) in
-      rw add-one (omega (arith, round f inside, its_own, of_callees))
+  where
+    at_function : (f : ℕ) (caller : Func) → slice_get fs f ≡ Some caller → get_or after f 0 ≡ min (measure_within (depth + 1) fs (Some caller)) cap
+    at_function f caller is =
+        let inside = slice_get_within fs f caller is in
+        let its_own : get_or own f 0 ≡ min (4 * function_bulk caller + 256 + nested_buffers caller) cap = ap (λ ns. get_or ns f 0) own_is ∙ get_or_map (λ g. min (4 * function_bulk g + 256 + nested_buffers g) cap) fs f caller 0 is in
+        let its_row : row (call_table fs) f ≡ numbers_named fs (callees caller) = get_or_map (λ g. numbers_named fs (callees g)) fs f caller [] is in
+        let of_callees : largest (map (λ g. get_or needs g 0) (row (call_table fs) f)) ≡ min (largest (map (λ x. measure_within depth fs (function_named fs x)) (callees caller))) cap =
+        ap (λ ns. largest (map (λ g. get_or needs g 0) ns)) its_row
+        ∙ ap largest (map_same (λ g. get_or needs g 0) (λ g. min (needs_at depth fs g) cap) needs_are (numbers_named fs (callees caller)))
+        ∙ largest_capped (needs_at depth fs) cap (numbers_named fs (callees caller))
+        ∙ ap (λ (n : ℕ). min n cap) (callee_needs depth fs (callees caller)) in
+        rw add-one (omega (arith, round f inside, its_own, of_callees))
 
-  at_option : (f : ℕ) (o : Option Func) → slice_get fs f ≡ o → get_or after f 0 ≡ min (measure_within (depth + 1) fs o) cap
-  at_option f None is =
-      let past = none_past fs f is in
-      let none : measure_within (depth + 1) fs None ≡ 0 = none_needs (depth + 1) fs in
-      get_or_past after f 0 (omega (arith, past)) ∙ sym (rw none (omega arith))
-  at_option f (Some caller) is = at_function f caller is
+    at_option : (f : ℕ) (o : Option Func) → slice_get fs f ≡ o → get_or after f 0 ≡ min (measure_within (depth + 1) fs o) cap
+    at_option f None is =
+        let past = none_past fs f is in
+        let none : measure_within (depth + 1) fs None ≡ 0 = none_needs (depth + 1) fs in
+        get_or_past after f 0 (omega (arith, past)) ∙ sym (rw none (omega arith))
+    at_option f (Some caller) is = at_function f caller is
 
-  pub one_deeper : (f : ℕ) → get_or after f 0 ≡ min (needs_at (depth + 1) fs f) cap
-  one_deeper f = at_option f (slice_get fs f) refl
+    pub one_deeper : (f : ℕ) → get_or after f 0 ≡ min (needs_at (depth + 1) fs f) cap
+    one_deeper f = at_option f (slice_get fs f) refl

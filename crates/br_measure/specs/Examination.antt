@@ -1,5 +1,5 @@
 -- What was found of the functions of a program.
-use Rattle.std.specs.Prelude.{◌≡◌, ℕ, List, map}
+use Rattle.std.specs.Prelude.{◌≡◌, List, map}
 use Rattle.br_syntax.specs.declared.program.Func.{Func}
 use Rattle.br_measure.specs.declared.phases.Examined.{Examined}
 use Rattle.br_measure.specs.declared.phases.Examined.TheVariants.{Sound, Faulty}

@@ -59,10 +59,7 @@ fn command(index: &Index, c: &Cmd, found: &mut Items<usize>) -> Result<(), NoMem
             }
             Ok(())
         }
-        Cmd::Skip
-        | Cmd::Set(_, _)
-        | Cmd::Unset(_)
-        | Cmd::Store(_, _, _)
-        | Cmd::Interact { .. } => Ok(()),
+        Cmd::Skip | Cmd::Set(_, _) | Cmd::Unset(_) | Cmd::Store(_, _, _) | Cmd::Interact { .. } =>
+            Ok(()),
     }
 }

@@ -12,7 +12,7 @@ use crate::bulk::bulk_of;
 use crate::fault::NameFault;
 use crate::phases::{Examined, examine};
 use br_base::{NoMemory, OrMemory};
-use br_syntax::Program;
+use br_syntax::{Func, Program};
 use sqlite_items::Items;
 use std::alloc::Global;
 use std::marker::Model;
@@ -83,13 +83,7 @@ impl Checked {
     pub fn find(&self, name: &[u8]) -> Option<u32>
         ensures { result ≡ number_named self.now name.now }
     {
-        match self
-            .program
-            .funcs
-            .as_slice()
-            .iter()
-            .position(|f| f.name.bytes() == name)
-        {
+        match first_named(self.program.funcs.as_slice(), name) {
             Some(n) => Some(n as u32),
             None => None,
         }
@@ -103,4 +97,10 @@ impl Checked {
     {
         self.measures.as_slice()[f as usize]
     }
+}
+
+fn first_named(funcs: &[Func], name: &[u8]) -> Option<usize>
+    ensures { result ≡ number_named funcs.now name.now }
+{
+    funcs.iter().position(|f| f.name.bytes() == name)
 }

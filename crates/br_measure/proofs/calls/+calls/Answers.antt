@@ -1,4 +1,4 @@
-use Rattle.std.proofs.Common.{ℕ, List, refl}
+use Rattle.std.proofs.Common.{ℕ, List}
 use Rattle.br_syntax.specs.declared.program.Cmd.TheFolds.{fold-Cmd}
 use Rattle.br_measure.specs.Paths.{callees_step}
 use Rattle.br_measure.proofs.CalleeParts.{numbers_step, numbers_of_choice}

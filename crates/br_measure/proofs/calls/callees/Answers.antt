@@ -1,4 +1,4 @@
-use Rattle.std.proofs.Common.{ℕ, List, ap, ◌∙◌}
+use Rattle.std.proofs.Common.{ℕ, List, ap}
 use Rattle.br_syntax.specs.declared.program.Cmd.TheFolds.{fold-Cmd}
 use Rattle.br_measure.specs.Paths.{callees_step}
 use Rattle.br_measure.specs.Table.{numbers_named}

@@ -1,4 +1,4 @@
-use Rattle.std.proofs.Common.{◌≡◌, ℕ, ◌+◌, ◌*◌, ◌<◌, List, min, length, get_or, map, refl, sym, ap, ◌∙◌, arith}
+use Rattle.std.proofs.Common.{◌≡◌, ℕ, ◌+◌, ◌<◌, List, min, length, get_or, map, ap, ◌∙◌, arith}
 use Rattle.br_syntax.specs.declared.program.Func.{Func}
 use Rattle.br_measure.specs.Measure.{measure, measure_within, largest}
 use Rattle.br_measure.specs.Table.{call_table, row}
@@ -20,10 +20,10 @@ loop-round-preserved c =
     let len : length after ≡ length fs = c.in_ok-needs-2.ensures.len ∙ rows in
     let needs_are : (f : ℕ) → get_or c.deref.result.now f 0 ≡ min (needs_at c.loop-round._round fs f) 4294967295 = λ f. ap (λ (ns : List ℕ). get_or ns f 0) c.deref.ensures.value ∙ c.loop-round.invariant.needs f in
     let round : (f : ℕ) → f < length fs → get_or after f 0 ≡ min (get_or c.as_slice.result.now f 0 + largest (map (λ g. get_or c.deref.result.now g 0) (row (call_table fs) f))) 4294967295 =
-        λ f inside. rw (← c.requires) (c.in_ok-needs-2.ensures.needs f (omega (arith, rows))) in
+    λ f inside. rw (← c.requires) (c.in_ok-needs-2.ensures.needs f (omega (arith, rows))) in
     record {
       len = len;
-      needs = one_deeper fs c.as_slice.result.now c.deref.result.now after c.loop-round._round 4294967295 (c.as_slice.ensures ∙ c.in_ok-own.ensures) needs_are len round
+      needs = one_deeper fs c.as_slice.result.now c.deref.result.now after c.loop-round._round 4294967295 (c.as_slice.ensures ∙ c.in_ok-own.ensures) needs_are len round;
     }
 
 pub returns : goal.returns

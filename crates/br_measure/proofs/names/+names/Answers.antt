@@ -1,6 +1,5 @@
-use Rattle.std.proofs.Common.{refl, rules}
-use Rattle.br_measure.specs.Names.{command_faults, commands_faults}
-use Rattle.br_measure.specs.Lowest.{lower, lowest}
+use Rattle.std.proofs.Common.{refl}
+use Rattle.br_measure.specs.Names.{command_faults}
 use Rattle.br_measure.proofs.LowestParts.{lowest_step}
 use Rattle.br_measure.proofs.CommandFaults.{lowest_of_choice}
 use Rattle.br_measure.proofs.names.+names.Goals as goal

@@ -1,4 +1,4 @@
-use Rattle.std.proofs.Common.{◌≡◌, ℕ, ◌<◌, true, length, get_or, below_more, sym, ◌∙◌, arith}
+use Rattle.std.proofs.Common.{◌<◌, length, below_more, sym, ◌∙◌, arith}
 use Rattle.std.proofs.lemmas.Bool.{false≢true}
 use Rattle.br_measure.specs.Table.{Leads}
 use Rattle.br_measure.proofs.Marking.{unmarked, path_within}

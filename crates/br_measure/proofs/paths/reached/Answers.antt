@@ -1,5 +1,4 @@
-use Rattle.std.proofs.Common.{◌≡◌, ℕ, ◌+◌, ◌<◌, List, ◌++◌, ◌∷◌, [], Bool, true, false, length, length-append, length-set, get_or, ap, sym, ◌∙◌, arith, rules, refl}
-use Rattle.std.proofs.lemmas.Grind.{common_steps}
+use Rattle.std.proofs.Common.{◌≡◌, ℕ, ◌+◌, ◌<◌, List, ◌++◌, ◌∷◌, [], true, length, length-append, length-set, ap, ◌∙◌, arith, rules, refl}
 use Rattle.std.proofs.lemmas.List.{length_push}
 use Rattle.br_measure.specs.Table.{row}
 use Rattle.br_measure.proofs.Marking.{unmarked, popped_within, seen_new, left_new, kept_new, closed_new, smaller_new, none_left}
@@ -54,5 +53,5 @@ loop-g-preserved-in-Continue-branch-3 c =
       seen_reached = seen_new t f seen left rest g popped inside before.seen_reached before.left_reached;
       left_reached = left_new t f seen left rest g popped inside before.left_reached;
       first = λ k call. kept_new t f seen left rest g popped inside k (before.first k call);
-      closed = closed_new t f seen left rest g popped inside before.closed
+      closed = closed_new t f seen left rest g popped inside before.closed;
     })

@@ -1,4 +1,4 @@
-use Rattle.std.proofs.Common.{◌≡◌, ◌<◌, ◌∙◌, sym, inl, inr, arith}
+use Rattle.std.proofs.Common.{◌∙◌, sym, inl, inr, arith}
 use Rattle.br_measure.proofs.FoundFaults.{lowest_is, none_lowest}
 use Rattle.br_measure.specs.Names.{name_faults}
 use Rattle.br_measure.proofs.phases.examine.Goals as goal

@@ -1,4 +1,4 @@
-use Rattle.std.proofs.Common.{◌≡◌, ◌<◌, ◌∙◌, sym, subst, ap, length, ℕ, List, Option, None, Some, inr, arith}
+use Rattle.std.proofs.Common.{◌≡◌, ◌∙◌, sym, subst, length, ℕ, List, Option, None, Some, inr, arith}
 use Rattle.br_syntax.specs.declared.program.Func.{Func}
 use Rattle.br_measure.specs.Paths.{callees}
 use Rattle.br_measure.specs.Table.{IsTable, IsFirstLoop, call_table, numbers_named}

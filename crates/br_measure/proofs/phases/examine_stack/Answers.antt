@@ -1,4 +1,4 @@
-use Rattle.std.proofs.Common.{◌≡◌, ◌<◌, ◌∙◌, sym, inr, arith, Fits, w32}
+use Rattle.std.proofs.Common.{◌∙◌, sym, inr, arith}
 use Rattle.br_measure.proofs.FoundFaults.{few_functions, found_within, deep_at, all_shallow, all_exact}
 use Rattle.br_measure.proofs.phases.examine_stack.Goals as goal
 
@@ -19,10 +19,12 @@ returns-in-None c =
     let fs = c.args.funcs.now in
     let ms = c.as_slice.result.now in
     let are = c.as_slice.ensures ∙ c.in_ok-measures.ensures in
-    let none = sym c.first_above.ensures ∙ c.in-None.is in
-    (record {
-      names = c.requires.names;
-      small = c.requires.small;
-      no_recursion = c.requires.no_recursion;
-      shallow = all_shallow fs ms 4294967295 1048576 (omega arith) are none
-    }, sym c.as_slice.ensures ∙ all_exact fs ms 4294967295 1048576 (omega arith) are none)
+    let none = sym c.first_above.ensures ∙ c.in-None.is in (
+      record {
+        names = c.requires.names;
+        small = c.requires.small;
+        no_recursion = c.requires.no_recursion;
+        shallow = all_shallow fs ms 4294967295 1048576 (omega arith) are none;
+      },
+      sym c.as_slice.ensures ∙ all_exact fs ms 4294967295 1048576 (omega arith) are none,
+    )

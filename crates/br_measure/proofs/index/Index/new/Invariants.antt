@@ -10,5 +10,5 @@ use Rattle.br_measure.proofs.index.Index.new.Given as goal
 abbrev pub invariant-loop-i : goal.invariant-loop-i
 invariant-loop-i l = record {
   numbered : (x : List ℕ) → get_by (λ k. bytes_eq x k.now) l.numbers ≡ number_named (take l.i l.funcs) x;
-  fault : lower l.fault (lowest (duplicates_after (take l.i l.funcs) (drop l.i l.funcs))) ≡ lowest (duplicates_after [] l.funcs)
+  fault : lower l.fault (lowest (duplicates_after (take l.i l.funcs) (drop l.i l.funcs))) ≡ lowest (duplicates_after [] l.funcs);
 }
