@@ -1,0 +1,43 @@
+-- What each answer of the top call says of its ends.
+use Rattle.std.specs.Prelude.{ℕ, ◌≡◌, ◌+◌, ◌≤◌, List, length, Option, ◌⊎◌, String}
+use Rattle.std.specs.declared.alloc.Global.{Global}
+use Rattle.std.specs.Io.KnownBytes.{Consumes, IsAtEnd}
+use Rattle.br_base.specs.Ends.{ConsumesMany}
+use Rattle.br_compile.specs.declared.refusal.Refusal.{Refusal}
+use Rattle.br_compile.specs.declared.refusal.Refusal.TheVariants.{InputTooLong}
+use Rattle.br_top.specs.declared.command.Command.{Command}
+use Rattle.br_top.specs.Refusals.{refusal_line}
+use Rattle.br_top.specs.Commands.{AreWordsOf, limit_of, Adds, Refuses}
+
+-- The bytes that an end tells, before a call and after it, are written `before` and `after`.
+
+-- a command's input was read to its end and these were all its bytes
+pub record ReadsAll (command : Command) (before after : Option (List ℕ)) (bytes : List ℕ) : Type 0 where
+  pub taken : Consumes before after bytes
+  pub end : IsAtEnd after
+  pub within : length bytes ≤ limit_of command
+
+-- what was read of a command's input is refused for this reason: it was read to the byte behind the
+-- limit, or to its end, and the command refuses these bytes
+abbrev pub ReadsRefused : Command → Option (List ℕ) → Option (List ℕ) → Refusal → Type 0
+ReadsRefused command before after refusal =
+    ((refusal ≡ InputTooLong) × ConsumesMany before after (limit_of command + 1))
+    ⊎ ((bytes : List ℕ) × ReadsAll command before after bytes × Refuses command bytes refusal)
+
+-- the words are a command's, its input was read to its end, and it adds this text for its bytes
+abbrev pub IsDueText : List (String Global) → Option (List ℕ) → Option (List ℕ) → List ℕ → Type 0
+IsDueText words before after text =
+    (command : Command) × (bytes : List ℕ) × AreWordsOf words command × ReadsAll command before after bytes × Adds command bytes text
+
+-- the words are a command's, what was read of its input is refused, and this line says why
+abbrev pub IsDueLine : List (String Global) → Option (List ℕ) → Option (List ℕ) → List ℕ → Type 0
+IsDueLine words before after line =
+    (command : Command) × (refusal : Refusal) × AreWordsOf words command × ReadsRefused command before after refusal × (line ≡ refusal_line refusal)
+
+-- no text is due for an input of these bytes
+abbrev pub HasNoText : Command → List ℕ → Type 0
+HasNoText command bytes = (text : List ℕ) → ¬ Adds command bytes text
+
+-- nothing refuses an input of these bytes
+abbrev pub IsUnrefused : Command → List ℕ → Type 0
+IsUnrefused command bytes = (length bytes ≤ limit_of command) × ((refusal : Refusal) → ¬ Refuses command bytes refusal)

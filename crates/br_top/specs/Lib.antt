@@ -1,0 +1,6 @@
+pub mod Answers
+pub mod Commands
+pub mod Lines
+pub mod Refusals
+pub mod Reports
+pub mod Troubles

@@ -1,0 +1,52 @@
+-- The line on standard error for each refusal.
+use Rattle.std.specs.Prelude.{ℕ, List, [], ◌∷◌, ◌++◌, codes}
+use Rattle.std.specs.List.{flat_map}
+use Rattle.std.specs.Fmt.{decimal}
+use Rattle.br_sexpr.specs.declared.tree.TextFault.{TextFault}
+use Rattle.br_sexpr.specs.declared.tree.TextFault.TheVariants.{BadByte, BadNumber, ExtraClose, Unclosed, TooDeep}
+use Rattle.br_syntax.specs.declared.fault.ShapeFault.{ShapeFault}
+use Rattle.br_syntax.specs.declared.fault.ShapeFault.TheVariants.{BadForm, BadSize, BadByteValue, TooMany, Repeated}
+use Rattle.br_measure.specs.declared.fault.NameFault.{NameFault}
+use Rattle.br_measure.specs.declared.fault.NameFault.TheVariants.{DuplicateFunction, UnknownFunction, WrongArguments, WrongResults, UnknownAction, TooLarge, Recursion, StackTooDeep}
+use Rattle.br_compile.specs.declared.refusal.Refusal.{Refusal}
+use Rattle.br_compile.specs.declared.refusal.Refusal.TheVariants.{InputTooLong, Text, Shape, Names, NotYet}
+use Rattle.br_top.specs.Lines.{error_line}
+
+-- each number in decimal, after one space
+abbrev pub number_fields : List ℕ → List ℕ
+number_fields numbers = flat_map (λ n. 32 ∷ decimal n) numbers
+
+-- the name of a refusal's kind, and its numbers
+abbrev pub refused_line : List ℕ → List ℕ → List ℕ
+refused_line kind numbers = error_line (codes "refused " ++ kind ++ number_fields numbers)
+
+abbrev pub text_fault_line : TextFault → List ℕ
+text_fault_line (BadByte at) = refused_line (codes "BadByte") (at ∷ [])
+text_fault_line (BadNumber at) = refused_line (codes "BadNumber") (at ∷ [])
+text_fault_line (ExtraClose at) = refused_line (codes "ExtraClose") (at ∷ [])
+text_fault_line (Unclosed at) = refused_line (codes "Unclosed") (at ∷ [])
+text_fault_line (TooDeep at) = refused_line (codes "TooDeep") (at ∷ [])
+
+abbrev pub shape_fault_line : ShapeFault → List ℕ
+shape_fault_line (BadForm at) = refused_line (codes "BadForm") (at ∷ [])
+shape_fault_line (BadSize at) = refused_line (codes "BadSize") (at ∷ [])
+shape_fault_line (BadByteValue at) = refused_line (codes "BadByteValue") (at ∷ [])
+shape_fault_line (TooMany at) = refused_line (codes "TooMany") (at ∷ [])
+shape_fault_line (Repeated at) = refused_line (codes "Repeated") (at ∷ [])
+
+abbrev pub name_fault_line : NameFault → List ℕ
+name_fault_line (DuplicateFunction at) = refused_line (codes "DuplicateFunction") (at ∷ [])
+name_fault_line (UnknownFunction at) = refused_line (codes "UnknownFunction") (at ∷ [])
+name_fault_line (WrongArguments at) = refused_line (codes "WrongArguments") (at ∷ [])
+name_fault_line (WrongResults at) = refused_line (codes "WrongResults") (at ∷ [])
+name_fault_line (UnknownAction at) = refused_line (codes "UnknownAction") (at ∷ [])
+name_fault_line (TooLarge bulk) = refused_line (codes "TooLarge") (bulk ∷ [])
+name_fault_line (Recursion function) = refused_line (codes "Recursion") (function ∷ [])
+name_fault_line (StackTooDeep function measure) = refused_line (codes "StackTooDeep") (function ∷ measure ∷ [])
+
+abbrev pub refusal_line : Refusal → List ℕ
+refusal_line InputTooLong = refused_line (codes "InputTooLong") []
+refusal_line (Text fault) = text_fault_line fault
+refusal_line (Shape fault) = shape_fault_line fault
+refusal_line (Names fault) = name_fault_line fault
+refusal_line (NotYet at) = refused_line (codes "NotYet") (at ∷ [])

@@ -1,0 +1,16 @@
+//! The top call of the program: from the words of the command line and the bytes of the input to
+//! the bytes of both outputs and a status.
+#![tactic(auto)]
+
+mod command;
+mod delivery;
+mod lines;
+mod making;
+mod refusal_lines;
+#[cfg(test)]
+mod tests;
+mod top;
+
+pub use command::Command;
+pub use lines::usage_line;
+pub use top::tool;

@@ -1,0 +1,132 @@
+// The top call.
+
+ghost use Rattle.std.specs.Prelude.{◌≡◌, ◌≤◌, ℕ, List, Some, ◌⊎◌};
+ghost use Rattle.std.specs.Io.KnownBytes.{Appends};
+ghost use Rattle.br_base.specs.Ends.{Rose, AppendsSome};
+ghost use Rattle.br_top.specs.declared.command.Command.{Command};
+ghost use Rattle.br_top.specs.Commands.{AreWords, AreWordsOf};
+ghost use Rattle.br_top.specs.Lines.{usage_line, read_fault_line, write_fault_line, no_memory_line};
+ghost use Rattle.br_top.specs.Refusals.{refusal_line};
+ghost use Rattle.br_top.specs.Answers.{IsDueText, IsDueLine, HasNoText, IsUnrefused};
+ghost use Rattle.br_top.specs.Reports.{Tells};
+
+use crate::command::{Command, command_of};
+use crate::delivery::{answer_line, answer_text, tell};
+use crate::lines::{no_memory_line, read_fault_line, usage_line};
+use crate::making::{Trouble, image_text};
+use crate::refusal_lines::refusal_line;
+use br_base::{NoMemory, Sink, Source, Status};
+use br_compile::Refusal;
+use std::alloc::Global;
+
+/// Does what the words ask for, which leave out the program's own name.
+///
+/// First the words are judged, which takes no memory; then the input is read to its end, or to the
+/// byte behind the command's limit; then it is refused, or the whole text of the answer is made; and
+/// then the text is written. Want of memory may come at any moment after the words.
+pub fn tool<S: Source, O: Sink, E: Sink>(
+    alloc: Global,
+    words: &[String],
+    input: &mut S,
+    out: &mut O,
+    err: &mut E,
+) -> Status
+    // The output gained the text that is due, and standard error nothing.
+    ensures done { result ≡ Status.Done → (text : List ℕ)
+        × IsDueText words.now (S.left input.old) (S.left input.new) text
+        × Appends (O.held out.old) (O.held out.new) text
+        × (err.new ≡ err.old) }
+
+    // What was read is refused, and standard error gained the line that says why.
+    ensures refused { result ≡ Status.Refused → (line : List ℕ)
+        × IsDueLine words.now (S.left input.old) (S.left input.new) line
+        × Appends (E.held err.old) (E.held err.new) line
+        × (out.new ≡ out.old) }
+
+    // The words are no command's, and then nothing is read.
+    ensures usage { result ≡ Status.Usage →
+        ¬ AreWords words.now
+        × Appends (E.held err.old) (E.held err.new) usage_line
+        × (out.new ≡ out.old) }
+    ensures unread { ¬ AreWords words.now → input.new ≡ input.old }
+
+    // The input failed.
+    ensures read_fault { result ≡ Status.ReadFault →
+        AreWords words.now
+        × Rose (S.faults input.old) (S.faults input.new)
+        × Tells (E.faults err.old) (E.faults err.new) (E.held err.old) (E.held err.new) read_fault_line
+        × (out.new ≡ out.old) }
+
+    // The output failed at the text that is due, or standard error at the line of a refusal or at
+    // the usage line.
+    ensures write_fault { result ≡ Status.WriteFault →
+        ((text : List ℕ)
+        × IsDueText words.now (S.left input.old) (S.left input.new) text
+        × Rose (O.faults out.old) (O.faults out.new)
+        × AppendsSome (O.held out.old) (O.held out.new) text
+        × Tells (E.faults err.old) (E.faults err.new) (E.held err.old) (E.held err.new) write_fault_line)
+        ⊎ ((line : List ℕ)
+        × (IsDueLine words.now (S.left input.old) (S.left input.new) line ⊎ (¬ AreWords words.now × (line ≡ usage_line)))
+        × Rose (E.faults err.old) (E.faults err.new)
+        × AppendsSome (E.held err.old) (E.held err.new) line
+        × (out.new ≡ out.old)) }
+
+    // There was no memory.
+    ensures no_memory { result ≡ Status.NoMemory →
+        AreWords words.now
+        × Tells (E.faults err.old) (E.faults err.new) (E.held err.old) (E.held err.new) no_memory_line
+        × (out.new ≡ out.old) }
+
+    // Each answer comes wherever its cause is there and no end fails, but for want of memory.
+    ensures other_words { ¬ AreWords words.now →
+        (result ≡ Status.Usage) ⊎ ((result ≡ Status.WriteFault) × Rose (E.faults err.old) (E.faults err.new)) }
+    ensures refusable { (command : Command) (bytes : List ℕ) →
+        AreWordsOf words.now command → S.left input.old ≡ Some bytes → HasNoText command bytes →
+        (result ≡ Status.Refused) ⊎ (result ≡ Status.NoMemory)
+        ⊎ ((result ≡ Status.ReadFault) × Rose (S.faults input.old) (S.faults input.new))
+        ⊎ ((result ≡ Status.WriteFault) × Rose (E.faults err.old) (E.faults err.new)) }
+    ensures acceptable { (command : Command) (bytes : List ℕ) →
+        AreWordsOf words.now command → S.left input.old ≡ Some bytes → IsUnrefused command bytes →
+        (result ≡ Status.Done) ⊎ (result ≡ Status.NoMemory)
+        ⊎ ((result ≡ Status.ReadFault) × Rose (S.faults input.old) (S.faults input.new))
+        ⊎ ((result ≡ Status.WriteFault) × Rose (O.faults out.old) (O.faults out.new)) }
+
+    // No count of faults falls.
+    ensures counts { (S.faults input.old ≤ S.faults input.new)
+        × (O.faults out.old ≤ O.faults out.new)
+        × (E.faults err.old ≤ E.faults err.new) }
+{
+    match command_of(words) {
+        None => answer_line(err, usage_line(), Status::Usage),
+        Some(Command::Compile) => match image_text(alloc, input) {
+            Ok(text) => answer_text(out, err, &text),
+            Err(Trouble::Refused(refusal)) => answer_refusal(alloc, err, &refusal),
+            Err(Trouble::ReadFault) => {
+                tell(err, read_fault_line());
+                Status::ReadFault
+            }
+            Err(Trouble::Memory) => {
+                tell(err, no_memory_line());
+                Status::NoMemory
+            }
+        },
+    }
+}
+
+/// Writes the line of a refusal.
+fn answer_refusal<E: Sink>(alloc: Global, err: &mut E, refusal: &Refusal) -> Status
+    ensures answered { ((result ≡ Status.Refused) × Appends (E.held err.old) (E.held err.new) (refusal_line refusal.now))
+        ⊎ ((result ≡ Status.WriteFault) × Rose (E.faults err.old) (E.faults err.new)
+        × AppendsSome (E.held err.old) (E.held err.new) (refusal_line refusal.now))
+        ⊎ ((result ≡ Status.NoMemory)
+        × Tells (E.faults err.old) (E.faults err.new) (E.held err.old) (E.held err.new) no_memory_line) }
+    ensures count { E.faults err.old ≤ E.faults err.new }
+{
+    match refusal_line(alloc, refusal) {
+        Ok(line) => answer_line(err, &line, Status::Refused),
+        Err(NoMemory) => {
+            tell(err, no_memory_line());
+            Status::NoMemory
+        }
+    }
+}
