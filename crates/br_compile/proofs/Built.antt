@@ -1,6 +1,6 @@
 -- A program none of whose forms is unbuilt has code.
 use Rattle.std.proofs.Common.{◌≡◌, ◌≢◌, ℕ, ◌+◌, ◌^◌, ◌<◌, List, [], ◌∷◌, ◌++◌, Result, Ok, Err, Option, Some, None, Bool, true, false, cond, map, length, refl, sym, ap, subst, ◌∙◌, arith}
-use Rattle.std.specs.Prelude.{nat_lt, if◌then◌else◌, ◌&&◌, codes}
+use Rattle.std.specs.Prelude.{nat_lt, ◌==◌, if◌then◌else◌, ◌&&◌, codes}
 use Rattle.std.specs.Option.{option_or}
 use Rattle.std.specs.Str.{bytes_eq}
 use Rattle.std.proofs.lemmas.Slice.Eq.{bytes_eq-Decides}
@@ -13,24 +13,25 @@ use Rattle.br_syntax.specs.declared.program.Expr.TheVariants as expr
 use Rattle.br_syntax.specs.declared.program.Expr.TheOpen.{Expr-F}
 use Rattle.br_syntax.specs.declared.program.Expr.TheFolds.{fold-roll-Expr}
 use Rattle.br_syntax.specs.Word.{expr_word}
-use Rattle.br_syntax.specs.Shaped.{Shaped, both, ◌<$>◌}
-use Rattle.br_syntax.specs.Denotes.{word_of, WithExpr, expression, expression_in, expression_of, of_three, operation_of, with_expression}
+use Rattle.br_syntax.specs.Shaped.{Shaped, both, lowest, ◌<$>◌}
+use Rattle.br_syntax.specs.declared.fault.ShapeFault.TheVariants.{TooMany}
+use Rattle.br_syntax.specs.Denotes.{word_of, offset_of, argument_at, arguments_from, WithExpr, expression, expression_in, expression_of, of_three, operation_of, with_expression}
 use Rattle.br_rv32im.specs.declared.instruction.Ins.{Ins}
 use Rattle.br_rv32im.specs.declared.instruction.Ins.TheVariants.{Reg}
 use Rattle.br_rv32im.specs.declared.instruction.RegOp.TheVariants.{Add}
 use Rattle.br_compile.specs.SumCode.{expression_code, expression_step, constant_code, both_code, operation_code}
-use Rattle.br_compile.specs.Unbuilt.{expression_unbuilt, expression_unbuilt_in, expression_list_unbuilt}
+use Rattle.br_compile.specs.Unbuilt.{first_among, expression_unbuilt, expression_unbuilt_in, expression_list_unbuilt}
 use Rattle.br_compile.proofs.Putting.{code_of_operation}
 
 -- ---- expressions
 
 -- both of two places are none
-both_none : (x y : Option ℕ) → option_or x y ≡ None → (x ≡ None) × (y ≡ None)
+pub both_none : (x y : Option ℕ) → option_or x y ≡ None → (x ≡ None) × (y ≡ None)
 both_none None y e = (refl, e)
 both_none (Some a) y e = absurd (cc)
 
 -- the test of a choice that is none
-chosen_none : (b : Bool) (x : Option ℕ) (at : ℕ) → (if b then x else Some at) ≡ None → (b ≡ true) × (x ≡ None)
+pub chosen_none : (b : Bool) (x : Option ℕ) (at : ℕ) → (if b then x else Some at) ≡ None → (b ≡ true) × (x ≡ None)
 chosen_none true x at e = (refl, e)
 chosen_none false x at e = absurd (cc)
 
@@ -38,7 +39,7 @@ code_of_literal : (n : ℕ) → expression_code (expr.Literal n) ≡ (if nat_lt 
 code_of_literal n = ap expression_code (sym (expr.rolls-Literal n)) ∙ fold-roll-Expr (Option (List Ins)) expression_step (Expr-F.Literal n)
 
 -- an expression with code
-abbrev HasCode : Expr → Type 0
+abbrev pub HasCode : Expr → Type 0
 HasCode e = (is : List Ins) × (expression_code e ≡ Some is)
 
 sum_has_code : (a b : Expr) → HasCode a → HasCode b → HasCode (expr.Op op.Add a b)
@@ -73,7 +74,7 @@ three at head x y e is none =
     let word : word_of head.0 ≡ codes "add" = (bytes_eq-Decides (word_of head.0) (codes "add")).0 chosen.0 in
     let parts = both_none (expression_unbuilt x.0) (expression_unbuilt y.0) chosen.1 in
     let sum : operation_of op.Add (expression x.0) (expression y.0) ≡ Ok e =
-        sym (ap (λ w. of_three at (expr_word w) (with_expression x.0) (with_expression y.0)) word) ∙ is in
+    sym (ap (λ w. of_three at (expr_word w) (with_expression x.0) (with_expression y.0)) word) ∙ is in
     let ok = both_ok (expression x.0) (expression y.0) e sum in
     subst HasCode (sym ok.4) (sum_has_code ok.0 ok.1 (x.1 ok.0 ok.2 parts.0) (y.1 ok.1 ok.3 parts.1))
 
@@ -96,3 +97,41 @@ layer (Tree-F.List at items) e is none =
 
 pub expression_built : (t : Tree) → P t
 expression_built = ind-Tree P (λ x y is. subst (λ z. P (roll-Tree z)) is (layer y))
+
+-- ---- commands
+
+-- a part of none of a list is none
+pub first_none : {X : Type 0} (f : X → Option ℕ) (x : X) (xs : List X) → first_among f (x ∷ xs) ≡ None → (f x ≡ None) × (first_among f xs ≡ None)
+first_none f x xs e = both_none (f x) (first_among f xs) e
+
+-- arguments that are built have code, each of them
+abbrev pub AllHaveCode : List Expr → Type 0
+AllHaveCode [] = Unit {0}
+AllHaveCode (e ∷ es) = HasCode e × AllHaveCode es
+
+-- where two parts are without a fault
+pub both_parts_ok : {A B : Type 0} (x : Shaped A) (y : Shaped B) (c : A × B) → both x y ≡ Ok c → (x ≡ Ok c.0) × (y ≡ Ok c.1)
+both_parts_ok (Ok a) (Ok b) c is = let same : (a, b) ≡ c = cc in (ap (λ p. Ok p.0) same, ap (λ p. Ok p.1) same)
+both_parts_ok (Ok a) (Err f) c is = absurd (cc)
+both_parts_ok (Err f) (Ok b) c is = absurd (cc)
+both_parts_ok (Err f) (Err g) c is = absurd (cc)
+
+-- where something is made of a part without a fault
+pub made_ok : {A B : Type 0} (f : A → B) (x : Shaped A) (b : B) → (f <$> x) ≡ Ok b → (a : A) × (x ≡ Ok a) × (f a ≡ b)
+made_ok f (Ok a) b is = (a, refl, cc)
+made_ok f (Err e) b is = absurd (cc)
+
+argument_ok : (i : ℕ) (t : Tree) (e : Expr) → argument_at i t ≡ Ok e → expression t ≡ Ok e
+argument_ok i t e is = by (i == 8) is
+  where
+    by : (b : Bool) → (if b then Err (lowest (TooMany (offset_of t)) (expression t)) else expression t) ≡ Ok e → expression t ≡ Ok e
+    by true is = absurd (cc)
+    by false is = is
+
+pub arguments_have_code : (ts : List Tree) (i : ℕ) (es : List Expr) → arguments_from i ts ≡ Ok es → first_among expression_unbuilt ts ≡ None → AllHaveCode es
+arguments_have_code [] i es is none = let same : [] ≡ es = cc in subst AllHaveCode same tt
+arguments_have_code (t ∷ ts) i es is none =
+    let made = made_ok (λ (p : Expr × List Expr). p.0 ∷ p.1) (both (argument_at i t) (arguments_from (i + 1) ts)) es is in
+    let parts = both_parts_ok (argument_at i t) (arguments_from (i + 1) ts) made.0 made.1 in
+    let nones = first_none expression_unbuilt t ts none in
+    subst AllHaveCode made.2 (expression_built t made.0.0 (argument_ok i t made.0.0 parts.0) nones.0, arguments_have_code ts (i + 1) made.0.1 parts.1 nones.1)

@@ -1,3 +1,4 @@
+mod UnbuiltForms
 pub mod Putting
 mod Pieces
 mod Computing
@@ -6,3 +7,4 @@ mod Whole
 mod Assembled
 mod Fronts
 mod Built
+mod BuiltProgram

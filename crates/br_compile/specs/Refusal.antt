@@ -1,42 +1,40 @@
 -- Which texts stand for which programs, and what refuses the others.
-use Rattle.std.specs.Prelude.{◌≡◌, ℕ, ◌<◌, ◌≤◌, List, length, min, None, ⊤}
+use Rattle.std.specs.Prelude.{◌≡◌, ℕ, ◌<◌, ◌≤◌, List, length, Some, ⊤}
 use Rattle.br_base.specs.declared.failure.OrMemory.{OrMemory}
 use Rattle.br_base.specs.declared.failure.OrMemory.TheVariants.{Memory, Fault}
 use Rattle.br_sexpr.specs.declared.tree.Tree.{Tree}
 use Rattle.br_sexpr.specs.Reads.{Reads, HasFault}
 use Rattle.br_syntax.specs.declared.program.Func.{Func}
 use Rattle.br_syntax.specs.Denotes.{Denotes, IsShapeFault}
-use Rattle.br_measure.specs.declared.fault.NameFault.TheVariants.{TooLarge}
-use Rattle.br_measure.specs.Bulk.{bulk}
+use Rattle.br_measure.specs.Faults.{IsFault, IsSound}
 use Rattle.br_compile.specs.declared.refusal.Refusal.{Refusal}
 use Rattle.br_compile.specs.declared.refusal.Refusal.TheVariants as refusal
-use Rattle.br_compile.specs.SumCode.{program_code}
+use Rattle.br_compile.specs.Unbuilt.{program_unbuilt}
 
 -- the most bytes of a source text
 abbrev pub most_bytes : ℕ
 most_bytes = 1048576
 
--- the greatest bulk of a program
-abbrev pub most_bulk : ℕ
-most_bulk = 8192
-
 -- the text is read as trees that stand for these functions
 abbrev pub StandsFor : List ℕ → List Func → Type 0
 StandsFor text fs = (length text ≤ most_bytes) × (trees : List Tree) × Reads text trees × Denotes trees fs
 
--- the text stands for these functions, and nothing refuses them
+-- the text stands for these functions, and no rule on names, bulk, recursion and stack is broken
 abbrev pub Accepts : List ℕ → List Func → Type 0
-Accepts text fs = StandsFor text fs × (bulk fs ≤ most_bulk)
+Accepts text fs = StandsFor text fs × IsSound fs
 
--- the first thing that refuses a text, in the order of the variants
+-- The first thing that refuses a text, in the order of the variants. The last is no fault of the text: it
+-- is accepted, and the form at this place is not built yet.
 abbrev pub IsRefusal : List ℕ → Refusal → Type 0
 IsRefusal text refusal.InputTooLong = most_bytes < length text
 IsRefusal text (refusal.Text fault) = (length text ≤ most_bytes) × HasFault text fault
 IsRefusal text (refusal.Shape fault) =
     (length text ≤ most_bytes) × (trees : List Tree) × Reads text trees × IsShapeFault trees fault
 IsRefusal text (refusal.Names fault) =
-    (fs : List Func) × StandsFor text fs × (most_bulk < bulk fs) × (fault ≡ TooLarge (min (bulk fs) 4294967295))
-IsRefusal text (refusal.NotYet at) = (fs : List Func) × Accepts text fs × (program_code fs ≡ None)
+    (fs : List Func) × StandsFor text fs × IsFault fs fault
+IsRefusal text (refusal.NotYet at) =
+    (length text ≤ most_bytes) × (trees : List Tree) × (fs : List Func)
+    × Reads text trees × Denotes trees fs × IsSound fs × (program_unbuilt trees ≡ Some at)
 
 -- what holds of a refusal, where the answer is not want of memory
 abbrev pub IfRefused : OrMemory Refusal → (Refusal → Type 0) → Type 0
@@ -50,3 +48,11 @@ IsShapeRefusal trees refusal.InputTooLong = ⊥
 IsShapeRefusal trees (refusal.Text fault) = ⊥
 IsShapeRefusal trees (refusal.Names fault) = ⊥
 IsShapeRefusal trees (refusal.NotYet at) = ⊥
+
+-- the refusal is for the fault of the program
+abbrev pub IsNameRefusal : List Func → Refusal → Type 0
+IsNameRefusal fs (refusal.Names fault) = IsFault fs fault
+IsNameRefusal fs refusal.InputTooLong = ⊥
+IsNameRefusal fs (refusal.Text fault) = ⊥
+IsNameRefusal fs (refusal.Shape fault) = ⊥
+IsNameRefusal fs (refusal.NotYet at) = ⊥

@@ -29,6 +29,10 @@ expression_unbuilt_in (Tree-F.List at items) = expression_list_unbuilt at items
 abbrev pub expression_unbuilt : Tree → Option ℕ
 expression_unbuilt = para-Tree (Option ℕ) expression_unbuilt_in
 
+-- a tree beside the first place in it
+abbrev pub with_unbuilt : Tree → Tree × Option ℕ
+with_unbuilt t = (t, expression_unbuilt t)
+
 -- a list of these items at a place that asks for a command
 abbrev pub command_list_unbuilt : ℕ → List Tree → Option ℕ
 command_list_unbuilt at (head ∷ results ∷ action ∷ args) =

@@ -1,19 +1,20 @@
 // From a source text to its image.
 
-ghost use Rattle.std.specs.Prelude.{◌≡◌, ◌<◌, ◌≤◌, List, length, IfOk, IfErr};
+ghost use Rattle.std.specs.Prelude.{◌≡◌, ◌<◌, ◌≤◌, List, None, length, IfOk, IfErr};
 ghost use Rattle.br_sexpr.specs.Reads.{Reads};
 ghost use Rattle.br_syntax.specs.Denotes.{Denotes};
 ghost use Rattle.br_syntax.specs.declared.program.Func.{Func};
-ghost use Rattle.br_measure.specs.Bulk.{bulk};
-ghost use Rattle.br_compile.specs.Refusal.{most_bytes, Accepts, IsRefusal, IsShapeRefusal, IfRefused};
+ghost use Rattle.br_measure.specs.Faults.{IsSound};
+ghost use Rattle.br_compile.specs.Unbuilt.{program_unbuilt};
+ghost use Rattle.br_compile.specs.Refusal.{most_bytes, Accepts, IsRefusal, IsShapeRefusal, IsNameRefusal, IfRefused};
 ghost use Rattle.br_compile.specs.Implements.{Implements};
 
 use crate::images::image_of;
 use crate::refusal::Refusal;
 use crate::unbuilt::first_unbuilt;
-use br_base::OrMemory;
+use br_base::{NoMemory, OrMemory};
 use br_image::Image;
-use br_measure::{NameFault, bulk_of};
+use br_measure::{Checked, check};
 use br_sexpr::{Tree, read};
 use br_syntax::{Program, from_tree};
 use sqlite_items::Items;
@@ -21,9 +22,6 @@ use std::alloc::Global;
 
 /// The most bytes of a source text.
 pub const MOST_BYTES: usize = 1_048_576;
-
-/// The greatest bulk of a program.
-pub const MOST_BULK: u32 = 8_192;
 
 /// The image of the program that a source text stands for. It implements that program: whatever the
 /// arguments, the memory, the answers of devices and the leftover contents of registers and stack,
@@ -38,16 +36,23 @@ pub fn compile(alloc: Global, text: &[u8]) -> Result<Image, OrMemory<Refusal>>
     }
     let trees = trees_of(alloc, text)?;
     let program = program_of(alloc, trees.as_slice())?;
-    let bulk = bulk_of(&program);
-    if bulk > MOST_BULK {
-        return Err(OrMemory::Fault(Refusal::Names(NameFault::TooLarge(bulk))));
+    let checked = checked_of(alloc, program)?;
+    match first_unbuilt(trees.as_slice()) {
+        Some(at) => Err(OrMemory::Fault(Refusal::NotYet(at))),
+        None => Ok(built_image(alloc, trees.as_slice(), checked.program())?),
     }
-    match image_of(alloc, &program)? {
+}
+
+// The image of a program that these trees stand for, none of whose forms is unbuilt.
+fn built_image(alloc: Global, trees: &[Tree], program: &Program) -> Result<Image, NoMemory>
+    requires trees { Denotes trees.now program.now.funcs }
+    requires built { program_unbuilt trees.now ≡ None }
+    requires sound { IsSound program.now.funcs }
+    ensures { IfOk result (λ i. Implements i program.now.funcs) }
+{
+    match image_of(alloc, program)? {
         Some(image) => Ok(image),
-        None => {
-            let at = first_unbuilt(trees.as_slice()).unwrap_or(0);
-            Err(OrMemory::Fault(Refusal::NotYet(at)))
-        }
+        None => unreachable!(),
     }
 }
 
@@ -71,5 +76,17 @@ fn program_of(alloc: Global, trees: &[Tree]) -> Result<Program, OrMemory<Refusal
         Ok(program) => Ok(program),
         Err(OrMemory::Memory) => Err(OrMemory::Memory),
         Err(OrMemory::Fault(fault)) => Err(OrMemory::Fault(Refusal::Shape(fault))),
+    }
+}
+
+fn checked_of(alloc: Global, program: Program) -> Result<Checked, OrMemory<Refusal>>
+    ensures kept { IfOk result (λ c. c ≡ program.funcs) }
+    ensures sound { IfOk result (λ c. IsSound c) }
+    ensures refused { IfErr result (λ e. IfRefused e (λ r. IsNameRefusal program.funcs r)) }
+{
+    match check(alloc, program) {
+        Ok(checked) => Ok(checked),
+        Err(OrMemory::Memory) => Err(OrMemory::Memory),
+        Err(OrMemory::Fault(fault)) => Err(OrMemory::Fault(Refusal::Names(fault))),
     }
 }

@@ -11,6 +11,6 @@ mod tests;
 mod unbuilt;
 mod writes;
 
-pub use compiling::{MOST_BULK, MOST_BYTES, compile};
+pub use compiling::{MOST_BYTES, compile};
 pub use laws::first_steps_show_a_run;
 pub use refusal::Refusal;

@@ -62,9 +62,15 @@ fn forms_that_are_not_built(rt: HostRuntime) {
         (b"(fn f () (r) (set r 1))", 0),
         (b"(fn f () ()) (fn g () ())", 13),
         (b"(fn f () () (interact (x) MMIOREAD 0x10012000))", 12),
-        (b"(fn f () () (interact () MMIOWRITE 0x10012000 (sub 1 2)))", 46),
+        (
+            b"(fn f () () (interact () MMIOWRITE 0x10012000 (sub 1 2)))",
+            46,
+        ),
         (b"(fn f () () (interact () MMIOWRITE x (sub 1 2)))", 35),
-        (b"(fn f () () (interact () MMIOWRITE (add 1 (mul 2 3)) 4) (skip))", 42),
+        (
+            b"(fn f () () (interact () MMIOWRITE (add 1 (mul 2 3)) 4) (skip))",
+            42,
+        ),
     ];
     for (text, at) in cases {
         assert_eq!(rt; not_yet(rt.alloc(), text), Some(at), "{text:?}");
