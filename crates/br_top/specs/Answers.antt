@@ -1,10 +1,10 @@
 -- What each answer of the top call says of its ends.
-use Rattle.std.specs.Prelude.{ℕ, ◌≡◌, ◌+◌, ◌≤◌, List, length, Option, ◌⊎◌, String}
+use Rattle.std.specs.Prelude.{ℕ, ◌≡◌, ◌+◌, ◌≤◌, List, length, Option, ◌⊎◌, ⊤, String}
 use Rattle.std.specs.declared.alloc.Global.{Global}
 use Rattle.std.specs.Io.KnownBytes.{Consumes, IsAtEnd}
 use Rattle.br_base.specs.Ends.{ConsumesMany}
 use Rattle.br_compile.specs.declared.refusal.Refusal.{Refusal}
-use Rattle.br_compile.specs.declared.refusal.Refusal.TheVariants.{InputTooLong}
+use Rattle.br_compile.specs.declared.refusal.Refusal.TheVariants.{InputTooLong, Text, Shape, Names, NotYet}
 use Rattle.br_top.specs.declared.command.Command.{Command}
 use Rattle.br_top.specs.Refusals.{refusal_line}
 use Rattle.br_top.specs.Commands.{AreWordsOf, limit_of, Adds, Refuses}
@@ -41,3 +41,11 @@ HasNoText command bytes = (text : List ℕ) → ¬ Adds command bytes text
 -- nothing refuses an input of these bytes
 abbrev pub IsUnrefused : Command → List ℕ → Type 0
 IsUnrefused command bytes = (length bytes ≤ limit_of command) × ((refusal : Refusal) → ¬ Refuses command bytes refusal)
+
+-- the refusal is for a form that is not built yet
+abbrev pub IsNotYet : Refusal → Type 0
+IsNotYet (NotYet at) = ⊤
+IsNotYet InputTooLong = ⊥
+IsNotYet (Text fault) = ⊥
+IsNotYet (Shape fault) = ⊥
+IsNotYet (Names fault) = ⊥

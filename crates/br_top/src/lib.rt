@@ -4,6 +4,7 @@
 
 mod command;
 mod delivery;
+mod laws;
 mod lines;
 mod making;
 mod refusal_lines;
@@ -12,5 +13,6 @@ mod tests;
 mod top;
 
 pub use command::Command;
+pub use laws::no_text_for_what_is_refused;
 pub use lines::usage_line;
 pub use top::tool;
