@@ -11,12 +11,15 @@ use Rattle.br_syntax.specs.Shape.{IsShaped}
 abbrev pub HasMeaning : List Tree → Type 0
 HasMeaning trees = ((funcs : List Func) × Denotes trees funcs) ⊎ ((fault : ShapeFault) × IsShapeFault trees fault)
 
+-- no two programs
 abbrev pub AtMostOneProgram : List Tree → Type 0
 AtMostOneProgram trees = (one other : List Func) → Denotes trees one → Denotes trees other → one ≡ other
 
+-- no two faults
 abbrev pub AtMostOneFault : List Tree → Type 0
 AtMostOneFault trees = (one other : ShapeFault) → IsShapeFault trees one → IsShapeFault trees other → one ≡ other
 
+-- no program beside a fault
 abbrev pub NeverBoth : List Tree → Type 0
 NeverBoth trees = (funcs : List Func) (fault : ShapeFault) → Denotes trees funcs → IsShapeFault trees fault → ⊥
 
