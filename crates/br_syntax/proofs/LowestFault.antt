@@ -1,11 +1,11 @@
 -- The fault of a text is the lowest of all faults that stand in it.
-use Rattle.std.proofs.Common.{◌≡◌, ◌⊎◌, ℕ, suc, ◌+◌, ◌≤◌, Bool, true, false, List, [], ◌∷◌, ◌++◌, Ok, Err, Option, Some, None, length, map, refl, sym, ap, ◌∙◌, subst, arith, codes, nat_le, ◌==◌, if◌then◌else◌}
+use Rattle.std.proofs.Common.{◌≡◌, ℕ, suc, ◌+◌, ◌≤◌, Bool, true, false, List, [], ◌∷◌, ◌++◌, Ok, Err, Option, Some, None, length, map, refl, sym, ap, ◌∙◌, subst, arith, codes, nat_le, ◌==◌, if◌then◌else◌}
 use Rattle.std.specs.List.{flat_map, list_any, Contains, AllByRecursion}
 use Rattle.std.proofs.lemmas.List.Elements.{All-from_recursion}
 use Rattle.std.specs.Str.{bytes_eq}
 use Rattle.std.proofs.lemmas.Grind.{common_steps}
 use Rattle.br_words.specs.declared.size.Size.{Size}
-use Rattle.br_sexpr.specs.declared.tree.Tree.{Tree, out-Tree, roll-Tree, roll-out-Tree}
+use Rattle.br_sexpr.specs.declared.tree.Tree.{Tree, out-Tree, roll-Tree}
 use Rattle.br_sexpr.specs.declared.tree.Tree.TheOpen.{Tree-F}
 use Rattle.br_sexpr.specs.declared.tree.Tree.TheOpen.Tree-F.{Name, Number, List as Items}
 use Rattle.br_sexpr.specs.declared.tree.Tree.TheFolds.{ind-Tree, map-Tree, para-roll-Tree}
@@ -24,7 +24,7 @@ use Rattle.br_syntax.specs.Fault.{place, lower}
 use Rattle.br_syntax.specs.Shape.{is_buffer_size}
 use Rattle.br_syntax.specs.Word.{expr_word, cmd_word}
 use Rattle.br_syntax.specs.Shaped.{Shaped, ◌<$>◌, lowest, both, all}
-use Rattle.br_syntax.specs.Denotes.{offset_of, word_of, name, name_in, names, names_in, name_among, names_after, buffer_size, buffer_size_in, byte, byte_in, bytes, bytes_in, WithExpr, with_expression, of_two, of_three, expression_of, expression_in, expression, argument_at, arguments_from, Places, WithPlaces, places, places_in, with_places, body_of, skip_of, set_of, unset_of, store_of, stackalloc_of, if_of, while_of, seq_of, target_of, call_of, interact_of, form_of, command_of, behind_of, command, commands, function_of, function_list, function_in, function, functions}
+use Rattle.br_syntax.specs.Denotes.{offset_of, word_of, name, name_in, names, names_in, name_among, names_after, buffer_size, buffer_size_in, byte, byte_in, bytes, bytes_in, WithExpr, with_expression, of_two, of_three, expression_of, expression_in, expression, argument_at, arguments_from, Places, WithPlaces, places, places_in, with_places, body_of, skip_of, set_of, unset_of, store_of, stackalloc_of, if_of, while_of, target_of, call_of, interact_of, form_of, command_of, behind_of, commands, function_of, function_list, function_in, function, functions}
 use Rattle.br_syntax.specs.Faults.{Faults, in_name, in_name_after, in_names_after, in_names, in_buffer_size, in_byte, in_bytes, WithFaults, in_two, in_three, in_items, in_expression_layer, in_expression, in_arguments_from, FaultPlaces, WithFaultPlaces, in_body, in_target, in_form, in_command_items, in_behind_items, in_places_layer, in_places, in_commands, in_function_items, in_function, all_faults, IsLowest}
 use Rattle.br_syntax.proofs.Joined.{lower_assoc}
 

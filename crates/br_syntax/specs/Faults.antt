@@ -1,8 +1,7 @@
 -- All faults of shape that stand in trees, by the kinds of tree that their places ask for.
-use Rattle.std.specs.Prelude.{◌≡◌, ℕ, ◌+◌, ◌≤◌, List, [], ◌∷◌, ◌++◌, Option, Some, None, length, map, nat_le, ◌==◌, if◌then◌else◌, codes}
+use Rattle.std.specs.Prelude.{ℕ, ◌+◌, ◌≤◌, List, [], ◌∷◌, ◌++◌, Option, Some, None, length, map, nat_le, ◌==◌, if◌then◌else◌, codes}
 use Rattle.std.specs.List.{flat_map, list_any, All, Contains}
 use Rattle.std.specs.Str.{bytes_eq}
-use Rattle.br_words.specs.declared.size.Size.{Size}
 use Rattle.br_sexpr.specs.declared.tree.Tree.{Tree, out-Tree}
 use Rattle.br_sexpr.specs.declared.tree.Tree.TheOpen.{Tree-F}
 use Rattle.br_sexpr.specs.declared.tree.Tree.TheOpen.Tree-F.{Name, Number, List as Items}
