@@ -1,9 +1,9 @@
 -- What a tree of each form stands for.
-use Rattle.std.proofs.Common.{◌≡◌, ℕ, List, [], ◌∷◌, Ok, Err, map, refl, sym, ap, ◌∙◌}
-use Rattle.br_sexpr.specs.declared.tree.Tree.{Tree, out-Tree, roll-Tree, roll-out-Tree}
+use Rattle.std.proofs.Common.{◌≡◌, ℕ, List, [], ◌∷◌, Ok, map, refl, sym, ap, ◌∙◌}
+use Rattle.br_sexpr.specs.declared.tree.Tree.{Tree, out-Tree, roll-out-Tree}
 use Rattle.br_sexpr.specs.declared.tree.Tree.TheVariants as tree
 use Rattle.br_sexpr.specs.declared.tree.Tree.TheOpen.Tree-F.{Name as name-F, Number as number-F, List as list-F}
-use Rattle.br_sexpr.specs.declared.tree.Tree.TheFolds.{map-Tree, para-Tree, para-roll-Tree}
+use Rattle.br_sexpr.specs.declared.tree.Tree.TheFolds.{map-Tree, para-roll-Tree}
 use Rattle.br_syntax.specs.declared.program.Expr.{Expr}
 use Rattle.br_syntax.specs.declared.program.Expr.TheVariants as expr
 use Rattle.br_syntax.specs.Shaped.{Shaped}

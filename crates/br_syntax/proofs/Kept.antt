@@ -1,26 +1,24 @@
 -- What trees stand for keeps the limits of programs.
-use Rattle.std.proofs.Common.{◌≡◌, ◌≢◌, ℕ, ◌+◌, ◌≤◌, Bool, true, false, ◌&&◌, List, [], ◌∷◌, Ok, Err, Option, Some, None, length, map, refl, sym, ap, ◌∙◌, subst, arith, codes, nat_le, ◌==◌, if◌then◌else◌}
+use Rattle.std.proofs.Common.{◌≡◌, ◌≢◌, ℕ, ◌+◌, ◌≤◌, Bool, true, false, List, [], ◌∷◌, Ok, Err, Option, Some, None, length, map, refl, sym, subst, arith, codes, if◌then◌else◌}
 use Rattle.std.specs.List.{list_all}
 use Rattle.std.specs.Str.{bytes_eq}
 use Rattle.std.proofs.lemmas.Grind.{common_steps}
 use Rattle.br_words.specs.declared.size.Size.{Size}
-use Rattle.br_sexpr.specs.declared.tree.Tree.{Tree, out-Tree, roll-Tree}
+use Rattle.br_sexpr.specs.declared.tree.Tree.{Tree, out-Tree}
 use Rattle.br_sexpr.specs.declared.tree.Tree.TheOpen.{Tree-F}
 use Rattle.br_sexpr.specs.declared.tree.Tree.TheOpen.Tree-F.{Name, Number, List as Items}
 use Rattle.br_sexpr.specs.declared.tree.Tree.TheFolds.{ind-Tree, map-Tree, para-roll-Tree}
 use Rattle.br_syntax.specs.declared.program.Expr.{Expr}
-use Rattle.br_syntax.specs.declared.program.Cmd.{Cmd, roll-Cmd}
+use Rattle.br_syntax.specs.declared.program.Cmd.{Cmd}
 use Rattle.br_syntax.specs.declared.fault.ShapeFault.{ShapeFault}
 use Rattle.br_syntax.specs.declared.fault.ShapeFault.TheVariants.{BadForm}
 use Rattle.br_syntax.specs.declared.program.Cmd.TheVariants as cmd
-use Rattle.br_syntax.specs.declared.program.Cmd.TheOpen.{Cmd-F}
-use Rattle.br_syntax.specs.declared.program.Cmd.TheFolds.{map-Cmd, fold-Cmd, fold-roll-Cmd}
 use Rattle.br_syntax.specs.declared.program.Func.{Func}
 use Rattle.br_syntax.specs.declared.word.CmdWord.{CmdWord}
 use Rattle.br_syntax.specs.declared.word.CmdWord.TheVariants as c
-use Rattle.br_syntax.specs.Shape.{IsShaped, is_shaped_command, is_shaped_function, command_step, is_buffer_size, are_names, are_arguments}
+use Rattle.br_syntax.specs.Shape.{IsShaped, is_shaped_command, is_shaped_function, is_buffer_size}
 use Rattle.br_syntax.specs.Word.{cmd_word}
-use Rattle.br_syntax.specs.Shaped.{Shaped, ◌<$>◌, both, all}
+use Rattle.br_syntax.specs.Shaped.{Shaped, both}
 use Rattle.br_syntax.specs.Denotes.{offset_of, word_of, functions, function, function_in, function_list, function_of, name, names, expression, buffer_size, buffer_size_in, argument_at, arguments_from, Places, WithPlaces, places, places_in, with_places, body_of, skip_of, set_of, unset_of, store_of, stackalloc_of, if_of, while_of, seq_of, target_of, call_of, interact_of, form_of, command_of, behind_of, commands}
 use Rattle.br_syntax.proofs.Parts.{made, split}
 use Rattle.br_syntax.proofs.KeptNames.{names_are_kept}

@@ -1,5 +1,5 @@
 -- A list of names that is read keeps the limits of such lists.
-use Rattle.std.proofs.Common.{◌≡◌, ◌≢◌, ℕ, ◌+◌, ◌≤◌, Bool, true, false, not, ◌||◌, ◌&&◌, List, [], ◌∷◌, ◌++◌, length, Ok, Err, refl, sym, ap, ◌∙◌, subst, arith, length-append, nat_le, ◌==◌}
+use Rattle.std.proofs.Common.{◌≡◌, ◌≢◌, ℕ, ◌+◌, ◌≤◌, Bool, true, false, not, List, [], ◌∷◌, ◌++◌, length, Ok, refl, arith, length-append}
 use Rattle.std.specs.List.{list_any, list_all}
 use Rattle.std.specs.Str.{bytes_eq}
 use Rattle.std.proofs.lemmas.Grind.{common_steps}
@@ -8,7 +8,7 @@ use Rattle.br_sexpr.specs.declared.tree.Tree.{Tree, out-Tree}
 use Rattle.br_sexpr.specs.declared.tree.Tree.TheOpen.{Tree-F}
 use Rattle.br_sexpr.specs.declared.tree.Tree.TheOpen.Tree-F.{Name, Number, List as Items}
 use Rattle.br_syntax.specs.Shape.{all_differ, are_names}
-use Rattle.br_syntax.specs.Shaped.{Shaped, ◌<$>◌, both}
+use Rattle.br_syntax.specs.Shaped.{both}
 use Rattle.br_syntax.specs.Denotes.{word_in, word_of, name_among, names_after, names_in, names}
 use Rattle.br_syntax.proofs.Parts.{made, split}
 

@@ -1,5 +1,5 @@
 -- Proofs of the laws.
-use Rattle.std.proofs.Common.{◌≡◌, ◌⊎◌, ℕ, List, [], ◌∷◌, Ok, Err, Result, map, refl, sym, ap, ◌∙◌, subst, inl, inr}
+use Rattle.std.proofs.Common.{◌≡◌, ◌⊎◌, ℕ, List, [], ◌∷◌, Ok, Err, map, refl, sym, ap, ◌∙◌, subst, inl, inr}
 use Rattle.br_sexpr.specs.declared.tree.Tree.{Tree}
 use Rattle.br_syntax.specs.declared.fault.ShapeFault.{ShapeFault}
 use Rattle.br_words.specs.declared.size.Size.{Size}
@@ -9,11 +9,12 @@ use Rattle.br_syntax.specs.declared.program.Cmd.TheVariants as cmd
 use Rattle.br_syntax.specs.declared.program.Cmd.TheOpen.{Cmd-F}
 use Rattle.br_syntax.specs.declared.program.Cmd.TheFolds.{map-Cmd, ind-Cmd, fold-roll-Cmd}
 use Rattle.br_syntax.specs.declared.program.Func.{Func}
-use Rattle.br_syntax.specs.Denotes.{functions, Denotes, IsShapeFault}
-use Rattle.br_syntax.specs.Law.{HasMeaning, AtMostOneProgram, AtMostOneFault, NeverBoth, KeepsLimits, UnplacedAgain}
-use Rattle.br_syntax.specs.Offsets.{unplaced, unplaced_step, unplaced_function, without_offsets}
+use Rattle.br_syntax.specs.Denotes.{functions}
+use Rattle.br_syntax.specs.Law.{HasMeaning, AtMostOneProgram, AtMostOneFault, NeverBoth, KeepsLimits, FaultIsLowest, NoneStands, UnplacedAgain}
+use Rattle.br_syntax.specs.Offsets.{unplaced, unplaced_step, unplaced_function}
 use Rattle.br_syntax.specs.Shaped.{Shaped}
 use Rattle.br_syntax.proofs.Kept.{denoted_is_shaped}
+use Rattle.br_syntax.proofs.LowestFault.{lowest_fault, no_fault}
 
 either : (s : Shaped (List Func)) → ((funcs : List Func) × (s ≡ Ok funcs)) ⊎ ((fault : ShapeFault) × (s ≡ Err fault))
 either (Ok funcs) = inl (funcs, refl)
@@ -34,7 +35,13 @@ never_both trees funcs fault a b = let same : Ok funcs ≡ Err fault = sym a ∙
 pub keeps_limits : (trees : List Tree) → KeepsLimits trees
 keeps_limits trees funcs = denoted_is_shaped trees funcs
 
-pub ruleset laws = (has_meaning, one_program, one_fault, never_both, keeps_limits)
+pub is_lowest : (trees : List Tree) → FaultIsLowest trees
+is_lowest trees fault is = lowest_fault trees fault is
+
+pub none_stands : (trees : List Tree) → NoneStands trees
+none_stands trees funcs is = no_fault trees funcs is
+
+pub ruleset laws = (has_meaning, one_program, one_fault, never_both, keeps_limits, is_lowest, none_stands)
 
 -- a command without its offsets, form by form
 unplaced-skip : unplaced cmd.Skip ≡ cmd.Skip

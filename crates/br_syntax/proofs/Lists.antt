@@ -1,5 +1,5 @@
 -- Lists whose items were read one by one.
-use Rattle.std.proofs.Common.{◌≡◌, ℕ, suc, ◌≤◌, ◌<◌, List, [], ◌∷◌, length, get_or, take, drop, refl, ◌+◌, ◌-◌, arith}
+use Rattle.std.proofs.Common.{◌≡◌, ℕ, ◌≤◌, ◌<◌, List, [], ◌∷◌, length, get_or, take, drop, ◌+◌, ◌-◌, arith}
 use Rattle.std.proofs.lemmas.Grind.{common_steps}
 
 module _ {X : Type 0} where

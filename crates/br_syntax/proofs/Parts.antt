@@ -1,6 +1,6 @@
 -- What parts with no fault say of the whole.
-use Rattle.std.proofs.Common.{◌≡◌, List, [], ◌∷◌, Ok, Err, refl, sym, ap, ◌∙◌}
-use Rattle.br_syntax.specs.Shaped.{Shaped, ◌<$>◌, both, all}
+use Rattle.std.proofs.Common.{◌≡◌, Ok, Err, refl, ap}
+use Rattle.br_syntax.specs.Shaped.{Shaped, ◌<$>◌, both}
 
 -- the part that makes such a whole
 pub record Made {A B : Type 0} (f : A → B) (s : Shaped A) (b : B) : Type 0 where

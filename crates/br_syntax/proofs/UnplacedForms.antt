@@ -8,7 +8,7 @@ use Rattle.br_syntax.specs.declared.program.Cmd.TheVariants as cmd
 use Rattle.br_syntax.specs.declared.program.Cmd.TheOpen.{Cmd-F}
 use Rattle.br_syntax.specs.declared.program.Cmd.TheFolds.{fold-roll-Cmd}
 use Rattle.br_syntax.specs.declared.program.Func.{Func}
-use Rattle.br_syntax.specs.Denotes.{function, functions, command, commands, body_of, WithPlaces, with_places}
+use Rattle.br_syntax.specs.Denotes.{function, functions, command, commands, WithPlaces, with_places}
 use Rattle.br_syntax.specs.Shaped.{all}
 use Rattle.br_syntax.specs.Offsets.{unplaced_function, unplaced, unplaced_step}
 use Rattle.br_syntax.proofs.Written.{map-push, all_push_tree}

@@ -1,12 +1,12 @@
 -- How the parts that were written so far go on.
-use Rattle.std.proofs.Common.{◌≡◌, ℕ, ◌+◌, ◌≤◌, ◌<◌, Bool, true, false, ◌&&◌, List, [], ◌∷◌, ◌++◌, Ok, Err, length, get_or, take, map, refl, sym, ap, ◌∙◌, arith, ◌==◌, nat_le}
+use Rattle.std.proofs.Common.{◌≡◌, ℕ, ◌+◌, ◌≤◌, ◌<◌, Bool, true, false, ◌&&◌, List, [], ◌∷◌, ◌++◌, Ok, length, get_or, take, map, refl, sym, ap, ◌∙◌, arith, ◌==◌}
 use Rattle.std.specs.List.{list_all}
 use Rattle.std.proofs.lemmas.Grind.{common_steps}
 use Rattle.std.proofs.lemmas.List.{take_more}
-use Rattle.br_sexpr.specs.declared.tree.Tree.{Tree, roll-Tree}
+use Rattle.br_sexpr.specs.declared.tree.Tree.{Tree}
 use Rattle.br_sexpr.specs.declared.tree.Tree.TheOpen.{Tree-F}
 use Rattle.br_sexpr.specs.declared.tree.Tree.TheVariants as tree
-use Rattle.br_sexpr.specs.declared.tree.Tree.TheFolds.{map-Tree, fold-roll-Tree}
+use Rattle.br_sexpr.specs.declared.tree.Tree.TheFolds.{fold-roll-Tree}
 use Rattle.br_syntax.specs.Shaped.{Shaped, ◌<$>◌, both, all}
 use Rattle.br_syntax.specs.Denotes.{byte, bytes}
 use Rattle.br_syntax.specs.Offsets.{zero_step, is_unplaced}

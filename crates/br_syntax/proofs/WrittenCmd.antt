@@ -1,24 +1,20 @@
 -- What the trees of commands stand for.
-use Rattle.std.proofs.Common.{◌≡◌, ◌≢◌, ℕ, ◌+◌, ◌≤◌, Bool, true, false, not, ◌&&◌, ◌||◌, List, [], ◌∷◌, ◌++◌, length, Ok, Err, Some, map, refl, sym, ap, ◌∙◌, codes, arith, length-append, nat_le, ◌==◌}
-use Rattle.std.specs.List.{list_all, list_any}
+use Rattle.std.proofs.Common.{◌≡◌, ℕ, true, List, [], ◌∷◌, Ok, Some, map, refl, ap, ◌∙◌, codes}
+use Rattle.std.specs.List.{list_all}
 use Rattle.std.specs.Str.{bytes_eq}
-use Rattle.std.proofs.lemmas.Grind.{common_steps}
-use Rattle.std.proofs.lemmas.List.Folds.{list_any-append}
 use Rattle.br_words.specs.declared.size.Size.{Size}
-use Rattle.br_sexpr.specs.declared.tree.Tree.{Tree, out-Tree}
+use Rattle.br_sexpr.specs.declared.tree.Tree.{Tree}
 use Rattle.br_sexpr.specs.declared.tree.Tree.TheVariants as tree
 use Rattle.br_syntax.specs.declared.program.Expr.{Expr}
 use Rattle.br_syntax.specs.declared.program.Cmd.{Cmd}
 use Rattle.br_syntax.specs.declared.program.Cmd.TheVariants as cmd
 use Rattle.br_syntax.specs.declared.word.CmdWord.TheVariants as c
-use Rattle.br_syntax.specs.Shape.{all_differ, are_names, is_buffer_size}
+use Rattle.br_syntax.specs.Shape.{is_buffer_size}
 use Rattle.br_syntax.specs.Word.{cmd_word}
-use Rattle.br_syntax.specs.Shaped.{Shaped, ◌<$>◌, both, all}
-use Rattle.br_syntax.specs.Denotes.{word_of, name_among, names_after, names, expression, argument_at, arguments_from, Places, WithPlaces, places, with_places, command, command_of, commands}
+use Rattle.br_syntax.specs.Denotes.{expression, Places, places, with_places, command, command_of, commands}
 use Rattle.br_syntax.specs.Offsets.{is_unplaced}
 use Rattle.br_syntax.specs.Writing.{IsBodyTree, IsTargetTree}
 use Rattle.br_syntax.proofs.Equations.{places-list, behind-list, trees_with_places}
-use Rattle.br_syntax.proofs.Parts.{made, split}
 use Rattle.br_syntax.proofs.Written.{unplaced-name, unplaced-number, unplaced-list}
 
 command-list : (items : List Tree) → command (tree.List 0 items) ≡ command_of 0 (map with_places items)

@@ -1,6 +1,5 @@
 -- What the trees of expressions stand for.
-use Rattle.std.proofs.Common.{◌≡◌, ℕ, Bool, true, ◌&&◌, List, [], ◌∷◌, Ok, Err, Some, map, refl, sym, ap, ◌∙◌}
-use Rattle.std.specs.List.{list_all}
+use Rattle.std.proofs.Common.{◌≡◌, ℕ, true, List, [], ◌∷◌, Ok, Some, refl, ◌∙◌}
 use Rattle.br_words.specs.declared.size.Size.{Size}
 use Rattle.br_words.specs.declared.operation.BinOp.{BinOp}
 use Rattle.br_sexpr.specs.declared.tree.Tree.{Tree}

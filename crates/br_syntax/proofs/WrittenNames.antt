@@ -1,5 +1,5 @@
 -- What the trees of names and arguments stand for.
-use Rattle.std.proofs.Common.{◌≡◌, ◌≢◌, ℕ, ◌+◌, ◌≤◌, Bool, true, false, not, ◌&&◌, ◌||◌, List, [], ◌∷◌, ◌++◌, length, Ok, Err, map, refl, sym, ap, ◌∙◌, arith, codes, length-append, nat_le, ◌==◌}
+use Rattle.std.proofs.Common.{◌≡◌, ◌≢◌, ℕ, ◌+◌, ◌≤◌, Bool, true, false, not, ◌&&◌, ◌||◌, List, [], ◌∷◌, ◌++◌, length, Ok, map, refl, sym, ap, ◌∙◌, arith, codes, length-append, nat_le}
 use Rattle.std.specs.List.{list_all, list_any}
 use Rattle.std.specs.Str.{bytes_eq}
 use Rattle.std.proofs.lemmas.Grind.{common_steps}
@@ -10,9 +10,9 @@ use Rattle.br_syntax.specs.declared.program.Expr.{Expr}
 use Rattle.br_syntax.specs.declared.program.Cmd.{Cmd}
 use Rattle.br_syntax.specs.declared.program.Func.{Func}
 use Rattle.br_syntax.specs.Shape.{all_differ, are_names, are_arguments, is_shaped_command, is_shaped_function}
-use Rattle.br_syntax.specs.Shaped.{Shaped, ◌<$>◌, both, all}
+use Rattle.br_syntax.specs.Shaped.{both, all}
 use Rattle.br_syntax.specs.Denotes.{function, commands, word_of, name_among, names_after, names, expression, argument_at, arguments_from}
-use Rattle.br_syntax.specs.Offsets.{is_unplaced, unplaced_function}
+use Rattle.br_syntax.specs.Offsets.{is_unplaced}
 use Rattle.br_syntax.proofs.Parts.{made, split}
 use Rattle.br_syntax.proofs.Written.{and_parts, one_before, unplaced-name, unplaced-list}
 

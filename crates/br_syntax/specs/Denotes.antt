@@ -1,5 +1,5 @@
 -- What trees stand for, by the kind of tree that their place asks for.
-use Rattle.std.specs.Prelude.{◌≡◌, ⊤, ℕ, ◌+◌, ◌%◌, ◌&&◌, List, [], ◌∷◌, ◌++◌, Option, Some, None, Result, Ok, Err, length, map, nat_le, ◌==◌, if◌then◌else◌, codes}
+use Rattle.std.specs.Prelude.{◌≡◌, ⊤, ℕ, ◌+◌, List, [], ◌∷◌, ◌++◌, Option, Some, None, Ok, Err, length, map, nat_le, ◌==◌, if◌then◌else◌, codes}
 use Rattle.std.specs.List.{list_any}
 use Rattle.std.specs.Str.{bytes_eq}
 use Rattle.br_base.specs.declared.failure.OrMemory.{OrMemory}
@@ -25,6 +25,7 @@ use Rattle.br_syntax.specs.Shape.{is_buffer_size}
 use Rattle.br_syntax.specs.Shaped.{Shaped, ◌<$>◌, lowest, both, all}
 use Rattle.br_syntax.specs.Word.{expr_word, cmd_word}
 
+-- the offset of one layer of a tree
 abbrev pub offset_in : {X : Type 0} → Tree-F X → ℕ
 offset_in (Name at text) = at
 offset_in (Number at value) = at
@@ -34,6 +35,7 @@ offset_in (Items at items) = at
 abbrev pub offset_of : Tree → ℕ
 offset_of t = offset_in (out-Tree t)
 
+-- the name that one layer of a tree is, and no byte where it is none
 abbrev pub word_in : {X : Type 0} → Tree-F X → List ℕ
 word_in (Name at text) = text
 word_in (Number at value) = []
@@ -49,6 +51,7 @@ name_in (Name at text) = Ok text
 name_in (Number at value) = Err (BadForm at)
 name_in (Items at items) = Err (BadForm at)
 
+-- of a tree
 abbrev pub name : Tree → Shaped (List ℕ)
 name t = name_in (out-Tree t)
 
@@ -73,6 +76,7 @@ names_in (Name at text) = Err (BadForm at)
 names_in (Number at value) = Err (BadForm at)
 names_in (Items at items) = names_after [] items
 
+-- of a tree
 abbrev pub names : Tree → Shaped (List (List ℕ))
 names t = names_in (out-Tree t)
 
@@ -82,6 +86,7 @@ buffer_size_in (Name at text) = Err (BadForm at)
 buffer_size_in (Number at value) = if is_buffer_size value then Ok value else Err (BadSize at)
 buffer_size_in (Items at items) = Err (BadForm at)
 
+-- of a tree
 abbrev pub buffer_size : Tree → Shaped ℕ
 buffer_size t = buffer_size_in (out-Tree t)
 
@@ -91,6 +96,7 @@ byte_in (Name at text) = Err (BadForm at)
 byte_in (Number at value) = if nat_le value 255 then Ok value else Err (BadByteValue at)
 byte_in (Items at items) = Err (BadForm at)
 
+-- of a tree
 abbrev pub byte : Tree → Shaped ℕ
 byte t = byte_in (out-Tree t)
 
@@ -100,6 +106,7 @@ bytes_in (Name at text) = Err (BadForm at)
 bytes_in (Number at value) = Err (BadForm at)
 bytes_in (Items at items) = all (map byte items)
 
+-- of a tree
 abbrev pub bytes : Tree → Shaped (List ℕ)
 bytes t = bytes_in (out-Tree t)
 
@@ -107,12 +114,15 @@ bytes t = bytes_in (out-Tree t)
 abbrev pub WithExpr : Type 0
 WithExpr = Tree × Shaped Expr
 
+-- a load of this size
 abbrev pub load_of : Size → Shaped Expr → Shaped Expr
 load_of size address = expr.Load size <$> address
 
+-- a read of a table of this size
 abbrev pub table_of : Size → Shaped (List ℕ) → Shaped Expr → Shaped Expr
 table_of size bytes index = (λ p. expr.Table size p.0 p.1) <$> both bytes index
 
+-- an operation on two words
 abbrev pub operation_of : BinOp → Shaped Expr → Shaped Expr → Shaped Expr
 operation_of operation first second = (λ p. expr.Op operation p.0 p.1) <$> both first second
 
@@ -138,6 +148,7 @@ expression_of at (head ∷ x ∷ []) = of_two at (expr_word (word_of head.0)) x
 expression_of at (head ∷ x ∷ y ∷ []) = of_three at (expr_word (word_of head.0)) x y
 expression_of at (head ∷ x ∷ y ∷ z ∷ more) = Err (BadForm at)
 
+-- one layer of a tree at a place that asks for an expression
 abbrev pub expression_in : Tree-F WithExpr → Shaped Expr
 expression_in (Name at text) = Ok (expr.Var text)
 expression_in (Number at value) = Ok (expr.Literal value)
@@ -173,38 +184,46 @@ WithPlaces = Tree × Places
 abbrev pub body_of : List WithPlaces → Shaped (List Cmd)
 body_of parts = all (map (λ part. part.1.command) parts)
 
+-- (skip)
 abbrev pub skip_of : ℕ → List WithPlaces → Shaped Cmd
 skip_of at [] = Ok cmd.Skip
 skip_of at (x ∷ more) = Err (BadForm at)
 
+-- (set NAME EXPR)
 abbrev pub set_of : ℕ → List WithPlaces → Shaped Cmd
 set_of at (variable ∷ value ∷ []) = (λ p. cmd.Set p.0 p.1) <$> both (name variable.0) (expression value.0)
 set_of at _ = Err (BadForm at)
 
+-- (unset NAME)
 abbrev pub unset_of : ℕ → List WithPlaces → Shaped Cmd
 unset_of at (variable ∷ []) = cmd.Unset <$> name variable.0
 unset_of at _ = Err (BadForm at)
 
+-- (store EXPR EXPR) of this size, the address first
 abbrev pub store_of : ℕ → Size → List WithPlaces → Shaped Cmd
 store_of at size (address ∷ value ∷ []) =
     (λ p. cmd.Store size p.0 p.1) <$> both (expression address.0) (expression value.0)
 store_of at size _ = Err (BadForm at)
 
+-- (stackalloc NAME SIZE COMMAND..)
 abbrev pub stackalloc_of : ℕ → List WithPlaces → Shaped Cmd
 stackalloc_of at (variable ∷ size ∷ body) =
     (λ p. cmd.Stackalloc p.0.0 p.0.1 p.1) <$> both (both (name variable.0) (buffer_size size.0)) (body_of body)
 stackalloc_of at _ = Err (BadForm at)
 
+-- (if EXPR THEN ELSE)
 abbrev pub if_of : ℕ → List WithPlaces → Shaped Cmd
 if_of at (test ∷ then_part ∷ else_part ∷ []) =
     (λ p. cmd.If p.0.0 p.0.1 p.1)
     <$> both (both (expression test.0) (then_part.1.behind (codes "then"))) (else_part.1.behind (codes "else"))
 if_of at _ = Err (BadForm at)
 
+-- (while EXPR COMMAND..)
 abbrev pub while_of : ℕ → List WithPlaces → Shaped Cmd
 while_of at (test ∷ body) = (λ p. cmd.While p.0 p.1) <$> both (expression test.0) (body_of body)
 while_of at [] = Err (BadForm at)
 
+-- (seq COMMAND..)
 abbrev pub seq_of : List WithPlaces → Shaped Cmd
 seq_of body = cmd.Seq <$> body_of body
 
@@ -212,12 +231,14 @@ seq_of body = cmd.Seq <$> body_of body
 abbrev pub target_of : Tree → Tree → List Tree → Shaped ((List (List ℕ) × List ℕ) × List Expr)
 target_of results called arguments = both (both (names results) (name called)) (arguments_from 0 arguments)
 
+-- (call NAMES NAME EXPR..)
 abbrev pub call_of : ℕ → List WithPlaces → Shaped Cmd
 call_of at (results ∷ callee ∷ arguments) =
     (λ p. cmd.Call (offset_of callee.0) p.0.0 p.0.1 p.1)
     <$> target_of results.0 callee.0 (map (λ part. part.0) arguments)
 call_of at _ = Err (BadForm at)
 
+-- (interact NAMES NAME EXPR..)
 abbrev pub interact_of : ℕ → List WithPlaces → Shaped Cmd
 interact_of at (results ∷ action ∷ arguments) =
     (λ p. cmd.Interact (offset_of action.0) p.0.0 p.0.1 p.1)
@@ -238,6 +259,7 @@ form_of at (Some c.Call) parts = call_of at parts
 form_of at (Some c.Interact) parts = interact_of at parts
 form_of at None parts = Err (BadForm at)
 
+-- a list of these items at a place that asks for a command
 abbrev pub command_of : ℕ → List WithPlaces → Shaped Cmd
 command_of at [] = Err (BadForm at)
 command_of at (head ∷ parts) = form_of at (cmd_word (word_of head.0)) parts
@@ -247,14 +269,17 @@ abbrev pub behind_of : ℕ → List WithPlaces → List ℕ → Shaped (List Cmd
 behind_of at [] word = Err (BadForm at)
 behind_of at (head ∷ body) word = if bytes_eq (word_of head.0) word then body_of body else Err (BadForm at)
 
+-- one layer of a tree at those places
 abbrev pub places_in : Tree-F WithPlaces → Places
 places_in (Name at text) = record { command = Err (BadForm at); behind = λ word. Err (BadForm at) }
 places_in (Number at value) = record { command = Err (BadForm at); behind = λ word. Err (BadForm at) }
 places_in (Items at items) = record { command = command_of at items; behind = behind_of at items }
 
+-- what a tree stands for at those places
 abbrev pub places : Tree → Places
 places = para-Tree Places places_in
 
+-- a tree beside that
 abbrev pub with_places : Tree → WithPlaces
 with_places t = (t, places t)
 
@@ -272,11 +297,13 @@ function_of called arguments results body =
     (λ p. record { at = offset_of called; name = p.0.0; args = p.0.1; results = p.1.0; body = p.1.1 })
     <$> both (both (name called) (names arguments)) (both (names results) (commands body))
 
+-- (fn NAME NAMES NAMES COMMAND..)
 abbrev pub function_list : ℕ → List Tree → Shaped Func
 function_list at (head ∷ called ∷ arguments ∷ results ∷ body) =
     if bytes_eq (word_of head) (codes "fn") then function_of called arguments results body else Err (BadForm at)
 function_list at _ = Err (BadForm at)
 
+-- one layer of a tree at a place that asks for a function
 abbrev pub function_in : Tree-F Tree → Shaped Func
 function_in (Name at text) = Err (BadForm at)
 function_in (Number at value) = Err (BadForm at)

@@ -48,9 +48,11 @@ module _ (F : Type 0) (duplicate unknown arguments results action : ℕ → F) w
       call_faults at (length args) (length outs) (function_named fs callee)
   faults_step fs (Cmd-F.Interact at outs name args) = action_faults at (length args) (length outs) name
 
+  -- the faults in a command
   abbrev pub command_faults : List Func → Cmd → List F
   command_faults fs = fold-Cmd (List F) (faults_step fs)
 
+  -- the faults in commands, in turn
   abbrev pub commands_faults : List Func → List Cmd → List F
   commands_faults fs cs = joined_faults (map (command_faults fs) cs)
 

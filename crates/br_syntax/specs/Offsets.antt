@@ -1,5 +1,5 @@
 -- Programs and trees without their offsets.
-use Rattle.std.specs.Prelude.{◌≡◌, ℕ, Bool, ◌&&◌, List, map, IsTrue, ◌==◌}
+use Rattle.std.specs.Prelude.{◌≡◌, Bool, ◌&&◌, List, map, IsTrue, ◌==◌}
 use Rattle.std.specs.List.{list_all}
 use Rattle.br_sexpr.specs.declared.tree.Tree.{Tree}
 use Rattle.br_sexpr.specs.declared.tree.Tree.TheOpen.{Tree-F}

@@ -43,6 +43,7 @@ command_step (Interact at results action arguments) = are_names results && are_a
 abbrev pub is_shaped_command : Cmd → Bool
 is_shaped_command = fold-Cmd Bool command_step
 
+-- whether a function keeps the limits throughout
 abbrev pub is_shaped_function : Func → Bool
 is_shaped_function f = are_names f.args && (are_names f.results && list_all is_shaped_command f.body)
 

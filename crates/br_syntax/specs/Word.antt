@@ -1,7 +1,6 @@
 -- The words that stand first in a list.
 use Rattle.std.specs.Prelude.{ℕ, List, Option, Some, None, if◌then◌else◌, codes}
 use Rattle.std.specs.Str.{bytes_eq}
-use Rattle.br_words.specs.declared.operation.BinOp.{BinOp}
 use Rattle.br_words.specs.declared.operation.BinOp.TheVariants as op
 use Rattle.br_words.specs.declared.size.Size.TheVariants.{One, Two, Four}
 use Rattle.br_syntax.specs.declared.word.ExprWord.{ExprWord}

@@ -4,7 +4,7 @@ use Rattle.br_sexpr.specs.declared.tree.Tree.{Tree}
 use Rattle.br_sexpr.specs.declared.tree.Tree.TheVariants as tree
 use Rattle.br_syntax.specs.declared.program.Expr.{Expr}
 use Rattle.br_syntax.specs.declared.program.Cmd.{Cmd}
-use Rattle.br_syntax.specs.Denotes.{names, name, expression, arguments_from, commands}
+use Rattle.br_syntax.specs.Denotes.{names, arguments_from, commands}
 
 -- a list of this word and trees that stand for these commands
 abbrev pub IsBodyTree : Tree → List ℕ → List Cmd → Type 0

@@ -3,10 +3,11 @@
 ghost use Rattle.std.specs.Prelude.{List};
 ghost use Rattle.br_sexpr.specs.declared.tree.Tree.{Tree};
 ghost use Rattle.br_syntax.specs.declared.program.Func.{Func};
-ghost use Rattle.br_syntax.specs.Law.{HasMeaning, AtMostOneProgram, AtMostOneFault, NeverBoth, KeepsLimits, UnplacedAgain};
+ghost use Rattle.br_syntax.specs.Law.{HasMeaning, AtMostOneProgram, AtMostOneFault, NeverBoth, KeepsLimits, FaultIsLowest, NoneStands, UnplacedAgain};
 
 /// Each list of trees stands for a program or has a lowest fault of shape, never both, and one
-/// alone. A program that trees stand for keeps the limits of programs.
+/// alone. The fault is the lowest of all faults of shape that stand in the trees, and where trees
+/// stand for a program, none does. A program that trees stand for keeps the limits of programs.
 #[tactic(auto, using(crate::proofs::Laws::laws))]
 pub fn one_meaning()
     ensures some { (trees : List Tree) → HasMeaning trees }
@@ -14,6 +15,8 @@ pub fn one_meaning()
     ensures one_fault { (trees : List Tree) → AtMostOneFault trees }
     ensures never_both { (trees : List Tree) → NeverBoth trees }
     ensures limits { (trees : List Tree) → KeepsLimits trees }
+    ensures lowest { (trees : List Tree) → FaultIsLowest trees }
+    ensures none_stands { (trees : List Tree) → NoneStands trees }
 {}
 
 /// A program without its offsets is equal to the program up to offsets.

@@ -36,6 +36,8 @@ fn texts_without_fault(rt: HostRuntime) -> Result<(), Fail> {
         "(fn f () () (stackalloc x 65536))",
         "(fn f () () (set x (table1 (255) 0)))",
         "(fn f (a b c d e f g h) () (call () g 0 0 0 0 0 0 0 0))",
+        "(fn f () () (skip) (set x (load1 0)) (unset x) (store4 0 (srs x 1)) (while 0) (seq))",
+        "(fn f () () (stackalloc b 8 (interact () g b)) (if 1 (then (skip)) (else)))",
     ] {
         assert_eq!(rt; fault_in(rt.alloc(), text)?, None, "in {text}");
     }

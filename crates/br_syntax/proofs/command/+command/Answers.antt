@@ -1,5 +1,4 @@
-use Rattle.std.proofs.Common.{ℕ, ◌-◌, ◌≤◌, length, take, drop, arith}
-use denote.Param.Weighed.{most}
+use Rattle.std.proofs.Common.{length, arith}
 use Rattle.br_syntax.proofs.Sizes.{most_part_le}
 use Rattle.br_sexpr.proofs.tree.Tree.TheLaws.{the_size}
 use Rattle.br_syntax.proofs.command.+command.Goals as goal

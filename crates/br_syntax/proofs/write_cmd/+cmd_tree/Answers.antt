@@ -1,13 +1,11 @@
 -- Each form's tree stands for it, and what it needs follows from the limits of the whole.
-use Rattle.std.proofs.Common.{◌≡◌, Bool, true, List, Ok, map, refl, sym, ap, ◌∙◌, codes, rules}
-use Rattle.std.specs.List.{list_all}
+use Rattle.std.proofs.Common.{List, Ok, map, refl, ap, ◌∙◌, codes, rules}
 use Rattle.std.proofs.lemmas.Result.{IfOk-weaker}
 use Rattle.br_syntax.specs.declared.program.Cmd.{Cmd}
 use Rattle.br_syntax.specs.declared.program.Cmd.TheVariants as cmd
 use Rattle.br_syntax.specs.declared.program.Cmd.TheFolds.{the_lemmas}
-use Rattle.br_syntax.specs.Shape.{is_shaped_command}
 use Rattle.br_syntax.specs.Offsets.{unplaced}
-use Rattle.br_syntax.proofs.ShapedForms.{stackalloc_parts, if_parts, while_part, seq_part, call_parts, interact_parts}
+use Rattle.br_syntax.proofs.ShapedForms.{stackalloc_parts, if_parts, while_part, seq_part}
 use Rattle.br_syntax.proofs.UnplacedForms.{unplaced-seq, unplaced-call, unplaced-interact, command_push}
 use Rattle.br_syntax.proofs.Written.{unplaced_push}
 use Rattle.br_syntax.proofs.WrittenCmd.{unplaced_body, unplaced_buffer, unplaced_loop, if_written, stackalloc_written, while_written, seq_written, call_written, interact_written}
