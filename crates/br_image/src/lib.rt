@@ -14,5 +14,5 @@ mod tests;
 pub use faults::ImageFault;
 pub use images::{Entry, Image};
 pub use laws::{one_image_or_one_fault, two_images_have_two_texts};
-pub use printing::print;
+pub use printing::{print, word_digits};
 pub use reading::read;

@@ -75,7 +75,7 @@ fn print_words(text: &mut Vec<u8>, words: &[u32]) -> Result<(), NoMemory>
 }
 
 /// The eight hexadecimal digits of a word, in lower case.
-pub(crate) fn word_digits(word: u32) -> [u8; 8]
+pub fn word_digits(word: u32) -> [u8; 8]
     ensures { result ≡ word_text word }
 {
     let mut digits = [0u8; 8];
