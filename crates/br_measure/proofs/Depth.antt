@@ -63,9 +63,10 @@ chain_path fs f (h ∷ hs) q chain stands =
 
 pub chain_apart : (fs : List Func) → HasNoRecursion fs → (f : ℕ) (hs : List ℕ) → Chain fs f hs → Apart (f ∷ hs)
 chain_apart fs none f [] chain = (refl, tt)
-chain_apart fs none f (h ∷ hs) chain =
-    (false_from_ne_true (has (h ∷ hs) f) (λ stands. let path = chain_path fs f (h ∷ hs) f chain stands in none f path.0 path.1),
-     chain_apart fs none h hs chain.1)
+chain_apart fs none f (h ∷ hs) chain = (
+  false_from_ne_true (has (h ∷ hs) f) (λ stands. let path = chain_path fs f (h ∷ hs) f chain stands in none f path.0 path.1),
+  chain_apart fs none h hs chain.1,
+)
 
 -- a path has no more functions than the program
 
@@ -118,7 +119,7 @@ module _ (fs : List Func) where
       → largest (map (λ x. measure_within low fs (function_named fs x)) (callees caller)) ≡ largest (map (λ x. measure_within high fs (function_named fs x)) (callees caller))
   callees_same low high caller f at same =
       ap largest (map_same_in (λ x. measure_within low fs (function_named fs x)) (λ x. measure_within high fs (function_named fs x)) (callees caller)
-        (λ x called. by_number low high caller f at same x called (number_named fs x) refl))
+      (λ x called. by_number low high caller f at same x called (number_named fs x) refl))
 
   -- where paths from f have fewer calls than so many
   abbrev Short : ℕ → ℕ → Type 0
@@ -144,7 +145,7 @@ measured_at : (fs : List Func) → HasNoRecursion fs → (f : ℕ) (caller : Fun
 measured_at fs none f caller at inside n len =
     ap (λ (m : ℕ). 4 * function_bulk caller + 256 + nested_buffers caller + m)
     (callees_same fs n (suc n) caller f at
-      (λ g call. stays fs n g (shorter fs f n g call (λ hs chain. omega (arith, chain_short fs none f inside hs chain)))))
+    (λ g call. stays fs n g (shorter fs f n g call (λ hs chain. omega (arith, chain_short fs none f inside hs chain)))))
 
 of_option : (fs : List Func) (o : Option Func) → measure_within (length fs) fs o ≡ unwrap_or (option_map (measure fs) o) 0
 of_option fs None = none_needs (length fs) fs
