@@ -1,5 +1,5 @@
 -- What each phase finds is the fault of the program.
-use Rattle.std.proofs.Common.{◌≡◌, ℕ, zero, suc, ◌*◌, ◌<◌, ◌≤◌, Bool, true, false, cond, ltb, leb, List, [], ◌∷◌, Option, Some, None, min, length, get_or, map, refl, sym, ap, ◌∙◌, arith, Contains}
+use Rattle.std.proofs.Common.{⊎_elim, ◌≡◌, ℕ, zero, suc, ◌*◌, ◌<◌, ◌≤◌, Bool, true, false, cond, ltb, leb, List, [], ◌∷◌, Option, Some, None, min, length, get_or, map, refl, sym, ap, ◌∙◌, arith, Contains}
 use Rattle.std.proofs.lemmas.Grind.{common_steps}
 use Rattle.std.proofs.lemmas.Bool.{false≢true, ltb-true, ltb-false, lt-ltb, leb-true, leb-false}
 use Rattle.std.proofs.lemmas.List.Sums.{fails_before_first}
@@ -8,14 +8,17 @@ use Rattle.std.proofs.lemmas.Option.{slice_get-get_or, slice_get_within, get_or_
 use Rattle.std.specs.List.{All, position, slice_get}
 use Rattle.br_syntax.specs.declared.program.Func.{Func}
 use Rattle.br_measure.specs.declared.fault.NameFault.{NameFault}
+use Rattle.br_measure.specs.declared.fault.NameFault.TheVariants.{DuplicateFunction, UnknownFunction, WrongArguments, WrongResults, UnknownAction, TooLarge, Recursion, StackTooDeep}
+use Rattle.br_syntax.specs.Shape.{IsShaped}
 use Rattle.br_measure.specs.Bulk.{bulk}
 use Rattle.br_measure.specs.Measure.{measure}
-use Rattle.br_measure.specs.Names.{place, IsLowest}
+use Rattle.br_measure.specs.Names.{place, name_faults, IsLowest, HasNoNameFault}
 use Rattle.br_measure.specs.Paths.{HasNoRecursion}
 use Rattle.br_measure.specs.Lowest.{lower_of, lower, lowest}
 use Rattle.br_measure.specs.Table.{call_table, IsFirstLoop}
-use Rattle.br_measure.specs.Faults.{IsRecursive, IsTooDeep}
+use Rattle.br_measure.specs.Faults.{IsRecursive, IsTooDeep, IsLaterFault, IsFault, IsSound}
 use Rattle.br_measure.proofs.Positions.{no_position}
+use Rattle.br_measure.proofs.Bounded.{measure_fits}
 use Rattle.br_measure.proofs.Rounds.{get_or_map, same_items, map_length}
 use Rattle.br_measure.proofs.TablePaths.{path_in_table, path_of_table}
 
@@ -130,12 +133,14 @@ function_at (f ∷ fs) zero inside = (f, refl)
 function_at (f ∷ fs) (suc k) inside = function_at fs k (omega arith)
 
 -- the first function above the limit
-pub deep_at : (fs : List Func) (ms : List ℕ) → ms ≡ map (λ f. min (measure fs f) 4294967295) fs → (k : ℕ) → position (λ m. ltb 1048576 m) ms ≡ Some k
+pub deep_at : (fs : List Func) (ms : List ℕ) → HasNoRecursion fs → IsShaped fs → bulk fs ≤ 8192 → ms ≡ map (λ f. min (measure fs f) 4294967295) fs → (k : ℕ) → position (λ m. ltb 1048576 m) ms ≡ Some k
     → IsTooDeep fs k (get_or ms k 0) × ((g t : ℕ) → g < k → IsTooDeep fs g t → ⊥)
-deep_at fs ms are k found =
+deep_at fs ms none shaped small are k found =
     let limits : 1048576 < 4294967295 = omega arith in
-    let f = function_at fs k (found_within fs ms 4294967295 1048576 limits are k found) in (
-      record { function = f.0; at = f.1; bytes = found_bytes fs ms 4294967295 1048576 limits are k f.0 f.1; above = found_above fs ms 4294967295 1048576 limits are k f.0 found f.1 },
+    let f = function_at fs k (found_within fs ms 4294967295 1048576 limits are k found) in
+    let fits = measure_fits fs none shaped small k f.0 f.1 in
+    let bytes : get_or ms k 0 ≡ measure fs f.0 = omega (arith, found_bytes fs ms 4294967295 1048576 limits are k f.0 f.1, fits) in (
+      record { function = f.0; at = f.1; bytes = bytes; above = found_above fs ms 4294967295 1048576 limits are k f.0 found f.1 },
       λ g t below deep. none_earlier fs ms 4294967295 1048576 limits are k found g deep.function below deep.at deep.above,
     )
 
@@ -146,3 +151,28 @@ kept_within fs ms k shallow are inside =
     let here : get_or ms k 0 ≡ measure fs f.0 = ap (λ ns. get_or ns k 0) are ∙ get_or_map (measure fs) fs k f.0 0 f.1 in
     let same = get_or_from_slice_get fs k f.0 f.0 f.1 in
     omega (arith, here, ap (measure fs) same, shallow k f.0 inside)
+
+-- a program that has no fault
+
+no_name : (fs : List Func) → HasNoNameFault fs → (fault : NameFault) → IsLowest (name_faults fs) fault → ⊥
+no_name fs none fault lowest =
+    let empty : length (name_faults fs) ≡ 0 = ap (λ (xs : List NameFault). length xs) none in
+    omega (arith, lowest.stands.1)
+
+not_deep : (fs : List Func) → All (λ f. measure fs f ≤ 1048576) fs → (f s : ℕ) → IsTooDeep fs f s → ⊥
+not_deep fs shallow f s deep =
+    let same = get_or_from_slice_get fs f deep.function deep.function deep.at in
+    omega (arith, deep.above, ap (measure fs) same, shallow f deep.function (slice_get_within fs f deep.function deep.at))
+
+no_later : (fs : List Func) → IsSound fs → (fault : NameFault) → IsLaterFault fs fault → ⊥
+no_later fs sound (TooLarge b) later = omega (arith, sound.small, later.0)
+no_later fs sound (Recursion f) later = sound.no_recursion f later.1.0 later.1.1
+no_later fs sound (StackTooDeep f s) later = not_deep fs sound.shallow f s later.2
+no_later fs sound (DuplicateFunction at) later = later
+no_later fs sound (UnknownFunction at) later = later
+no_later fs sound (WrongArguments at) later = later
+no_later fs sound (WrongResults at) later = later
+no_later fs sound (UnknownAction at) later = later
+
+pub sound_has_none : (fs : List Func) (fault : NameFault) → IsSound fs → IsFault fs fault → ⊥
+sound_has_none fs fault sound = ⊎_elim (λ lowest. no_name fs sound.names fault lowest) (λ later. no_later fs sound fault later.1)

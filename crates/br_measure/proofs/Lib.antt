@@ -1,5 +1,7 @@
+pub mod Bounded
 pub mod CalleeParts
 pub mod CommandFaults
+pub mod Depth
 pub mod FoundFaults
 pub mod Largest
 pub mod LowestParts

@@ -17,7 +17,7 @@ IsRecursive fs f = (between : List ℕ) × CallPath fs f between f
 pub record IsTooDeep (fs : List Func) (f s : ℕ) : Type 0 where
   pub function : Func
   pub at : slice_get fs f ≡ Some function
-  pub bytes : s ≡ min (measure fs function) 4294967295
+  pub bytes : s ≡ measure fs function
   pub above : 1048576 < measure fs function
 
 -- A fault of a program none of whose names is at fault. Such faults come in this order: the bulk

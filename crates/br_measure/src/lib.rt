@@ -6,6 +6,7 @@ mod calls;
 mod checking;
 mod fault;
 mod index;
+mod laws;
 mod lowest;
 mod measures;
 mod names;
@@ -16,3 +17,7 @@ mod phases;
 pub use bulk::bulk_of;
 pub use checking::{Checked, check};
 pub use fault::NameFault;
+pub use laws::{measures_add_up, sound_programs_have_no_fault};
+
+#[cfg(test)]
+mod tests;

@@ -3,6 +3,7 @@
 ghost use Rattle.std.specs.Prelude.{◌≡◌, ℕ, ◌<◌, ◌≤◌, List, Some, None, min, map, length, nat_lt, IfOk};
 ghost use Rattle.std.specs.List.{position};
 ghost use Rattle.br_syntax.specs.declared.program.Func.{Func};
+ghost use Rattle.br_syntax.specs.Shape.{IsShaped};
 ghost use Rattle.br_measure.specs.Bulk.{bulk};
 ghost use Rattle.br_measure.specs.Measure.{measure};
 ghost use Rattle.br_measure.specs.Names.{HasNoNameFault};
@@ -37,7 +38,8 @@ pub enum Examined {
 
 /// Examines functions of this bulk.
 pub fn examine(alloc: Global, funcs: &[Func], total: u32) -> Result<Examined, NoMemory>
-    requires { total ≡ min (bulk funcs.now) 4294967295 }
+    requires shaped { IsShaped funcs.now }
+    requires total { total ≡ min (bulk funcs.now) 4294967295 }
     ensures { IfOk result (λ found. IsExamined funcs.now found) }
 {
     let (index, fault) = read_names(alloc, funcs)?;
@@ -55,6 +57,7 @@ pub fn examine(alloc: Global, funcs: &[Func], total: u32) -> Result<Examined, No
 
 // Examines functions that keep the rules on names and bulk.
 fn examine_calls(alloc: Global, index: &Index) -> Result<Examined, NoMemory>
+    requires shaped { IsShaped index.now.funcs.now }
     requires names { HasNoNameFault index.now.funcs.now }
     requires small { bulk index.now.funcs.now ≤ 8192 }
     ensures { IfOk result (λ found. IsExamined index.now.funcs.now found) }
@@ -72,6 +75,7 @@ fn examine_stack(
     funcs: &[Func],
     table: &[Items<usize>],
 ) -> Result<Examined, NoMemory>
+    requires shaped { IsShaped funcs.now }
     requires names { HasNoNameFault funcs.now }
     requires small { bulk funcs.now ≤ 8192 }
     requires no_recursion { HasNoRecursion funcs.now }

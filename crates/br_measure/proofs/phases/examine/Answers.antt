@@ -8,7 +8,7 @@ returns-in-Some c = inl (lowest_is (name_faults c.args.funcs.now) c.in-Some.faul
 
 pub returns-then-total-gt-LARGEST_BULK : goal.returns-then-total-gt-LARGEST_BULK
 returns-then-total-gt-LARGEST_BULK c =
-    inr (none_lowest (name_faults c.args.funcs.now) (sym c.in_ok-index.ensures.fault ∙ c.in-None.is), (omega (arith, c.requires), c.requires))
+    inr (none_lowest (name_faults c.args.funcs.now) (sym c.in_ok-index.ensures.fault ∙ c.in-None.is), (omega (arith, c.requires.total), c.requires.total))
 
 pub examine_calls-requires-clause-names : goal.examine_calls-requires-clause-names
 examine_calls-requires-clause-names c =

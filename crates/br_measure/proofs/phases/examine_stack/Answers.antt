@@ -11,7 +11,7 @@ overflow_cast-result c =
 
 pub returns-in-Some : goal.returns-in-Some
 returns-in-Some c =
-    let deep = deep_at c.args.funcs.now c.as_slice.result.now (c.as_slice.ensures ∙ c.in_ok-measures.ensures) c.in-Some.f (sym c.first_above.ensures ∙ c.in-Some.is) in
+    let deep = deep_at c.args.funcs.now c.as_slice.result.now c.requires.no_recursion c.requires.shaped c.requires.small (c.as_slice.ensures ∙ c.in_ok-measures.ensures) c.in-Some.f (sym c.first_above.ensures ∙ c.in-Some.is) in
     inr (c.requires.names, (c.requires.small, c.requires.no_recursion, rw (c.as_slice-in-Some.ensures, ← c.as_slice.ensures) deep.0, deep.1))
 
 pub returns-in-None : goal.returns-in-None
