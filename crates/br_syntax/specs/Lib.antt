@@ -3,7 +3,6 @@ pub mod Fault
 pub mod Faults
 pub mod Functions
 pub mod Law
-pub mod NameFaults
 pub mod Offsets
 pub mod Shape
 pub mod Shaped
