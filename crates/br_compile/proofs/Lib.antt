@@ -8,3 +8,4 @@ mod Assembled
 mod Fronts
 mod Built
 mod BuiltProgram
+mod Unrefused

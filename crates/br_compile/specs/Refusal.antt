@@ -23,18 +23,28 @@ StandsFor text fs = (length text ≤ most_bytes) × (trees : List Tree) × Reads
 abbrev pub Accepts : List ℕ → List Func → Type 0
 Accepts text fs = StandsFor text fs × IsSound fs
 
--- The first thing that refuses a text, in the order of the variants. The last is no fault of the text: it
--- is accepted, and the form at this place is not built yet.
-abbrev pub IsRefusal : List ℕ → Refusal → Type 0
-IsRefusal text refusal.InputTooLong = most_bytes < length text
-IsRefusal text (refusal.Text fault) = (length text ≤ most_bytes) × HasFault text fault
-IsRefusal text (refusal.Shape fault) =
+-- the first fault of a text, in the order of the variants
+abbrev pub IsFaultOf : List ℕ → Refusal → Type 0
+IsFaultOf text refusal.InputTooLong = most_bytes < length text
+IsFaultOf text (refusal.Text fault) = (length text ≤ most_bytes) × HasFault text fault
+IsFaultOf text (refusal.Shape fault) =
     (length text ≤ most_bytes) × (trees : List Tree) × Reads text trees × IsShapeFault trees fault
-IsRefusal text (refusal.Names fault) =
-    (fs : List Func) × StandsFor text fs × IsFault fs fault
-IsRefusal text (refusal.NotYet at) =
+IsFaultOf text (refusal.Names fault) = (fs : List Func) × StandsFor text fs × IsFault fs fault
+IsFaultOf text (refusal.NotYet at) = ⊥
+
+-- an accepted text has a form at this place that the compiler does not build yet, the first of them
+abbrev pub IsNotYet : List ℕ → ℕ → Type 0
+IsNotYet text at =
     (length text ≤ most_bytes) × (trees : List Tree) × (fs : List Func)
     × Reads text trees × Denotes trees fs × IsSound fs × (program_unbuilt trees ≡ Some at)
+
+-- what refuses a text: its first fault, or the first form that is not built
+abbrev pub IsRefusal : List ℕ → Refusal → Type 0
+IsRefusal text refusal.InputTooLong = IsFaultOf text refusal.InputTooLong
+IsRefusal text (refusal.Text fault) = IsFaultOf text (refusal.Text fault)
+IsRefusal text (refusal.Shape fault) = IsFaultOf text (refusal.Shape fault)
+IsRefusal text (refusal.Names fault) = IsFaultOf text (refusal.Names fault)
+IsRefusal text (refusal.NotYet at) = IsNotYet text at
 
 -- what holds of a refusal, where the answer is not want of memory
 abbrev pub IfRefused : OrMemory Refusal → (Refusal → Type 0) → Type 0

@@ -6,6 +6,7 @@ ghost use Rattle.br_syntax.specs.Denotes.{Denotes};
 ghost use Rattle.br_syntax.specs.declared.program.Func.{Func};
 ghost use Rattle.br_measure.specs.Faults.{IsSound};
 ghost use Rattle.br_compile.specs.Unbuilt.{program_unbuilt};
+ghost use Rattle.br_compile.specs.declared.refusal.Refusal.{Refusal};
 ghost use Rattle.br_compile.specs.Refusal.{most_bytes, Accepts, IsRefusal, IsShapeRefusal, IsNameRefusal, IfRefused};
 ghost use Rattle.br_compile.specs.Implements.{Implements};
 
@@ -14,8 +15,8 @@ use crate::refusal::Refusal;
 use crate::unbuilt::first_unbuilt;
 use br_base::{NoMemory, OrMemory};
 use br_image::Image;
-use br_measure::{Checked, check};
-use br_sexpr::{Tree, read};
+use br_measure::{Checked, check, sound_programs_have_no_fault};
+use br_sexpr::{Tree, one_answer, read};
 use br_syntax::{Program, from_tree};
 use sqlite_items::Items;
 use std::alloc::Global;
@@ -29,8 +30,11 @@ pub const MOST_BYTES: usize = 1_048_576;
 /// An `Err` that is no want of memory is the first thing that refuses the text.
 pub fn compile(alloc: Global, text: &[u8]) -> Result<Image, OrMemory<Refusal>>
     ensures implements { IfOk result (λ i. (fs : List Func) × Accepts text.now fs × Implements i fs) }
+    ensures unrefused { IfOk result (λ _. (r : Refusal) → IsRefusal text.now r → ⊥) }
     ensures refused { IfErr result (λ e. IfRefused e (λ r. IsRefusal text.now r)) }
 {
+    one_answer();
+    sound_programs_have_no_fault();
     if text.len() > MOST_BYTES {
         return Err(OrMemory::Fault(Refusal::InputTooLong));
     }

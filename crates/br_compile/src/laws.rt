@@ -1,12 +1,17 @@
 // What follows from the definitions. These functions do nothing: each contract is a law.
 
 ghost use Rattle.std.specs.Prelude.{◌≡◌, ℕ, List};
+ghost use Rattle.br_compile.specs.declared.refusal.Refusal.{Refusal};
+ghost use Rattle.br_compile.specs.Refusal.{Accepts, IsFaultOf};
 ghost use Rattle.br_bytes.specs.Memory.{Memory};
 ghost use Rattle.br_syntax.specs.declared.program.Func.{Func};
 ghost use Rattle.br_image.specs.declared.images.Entry.{Entry};
 ghost use Rattle.br_machine.specs.Start.{Leftover};
 ghost use Rattle.br_compile.specs.Implements.{Follows};
 ghost use Rattle.br_compile.specs.FirstSteps.{FollowsAtFirst};
+
+use br_measure::sound_programs_have_no_fault;
+use br_sexpr::one_answer;
 
 /// For every number n of steps, also where the program never ends: unless a run of the source with
 /// n units of fuel is undefined, none of the first n steps of an image that follows it traps, and
@@ -15,3 +20,12 @@ pub fn first_steps_show_a_run()
     ensures { (code : List ℕ) (fs : List Func) (f : Func) (entry : Entry) (args : List ℕ) (m : Memory) (answers : List ℕ) (j : Leftover) (n : ℕ) →
         Follows code fs f entry args m answers j n → FollowsAtFirst code fs f entry args m answers j n }
 {}
+
+/// A text is accepted as one program alone, and an accepted text has no fault.
+pub fn accepted_texts_have_no_fault()
+    ensures one { (text : List ℕ) (fs gs : List Func) → Accepts text fs → Accepts text gs → fs ≡ gs }
+    ensures never_both { (text : List ℕ) (fs : List Func) (r : Refusal) → Accepts text fs → IsFaultOf text r → ⊥ }
+{
+    one_answer();
+    sound_programs_have_no_fault();
+}
