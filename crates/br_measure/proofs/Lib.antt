@@ -10,4 +10,5 @@ pub mod Numbered
 pub mod Positions
 pub mod Reach
 pub mod Rounds
+pub mod SameFaults
 pub mod TablePaths
