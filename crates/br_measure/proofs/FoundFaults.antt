@@ -156,7 +156,7 @@ kept_within fs ms k shallow are inside =
 
 -- a program that has no fault
 
-no_name : (fs : List Func) → HasNoNameFault fs → (fault : NameFault) → IsLowest (name_faults fs) fault → ⊥
+pub no_name : (fs : List Func) → HasNoNameFault fs → (fault : NameFault) → IsLowest (name_faults fs) fault → ⊥
 no_name fs none fault lowest =
     let empty : length (name_faults fs) ≡ 0 = ap (λ (xs : List NameFault). length xs) (no_fault_stands fs none) in
     omega (arith, lowest.stands.1)

@@ -7,6 +7,7 @@ pub mod Largest
 pub mod LowestParts
 pub mod Marking
 pub mod Numbered
+pub mod OneFault
 pub mod Positions
 pub mod Reach
 pub mod Rounds

@@ -12,7 +12,7 @@ use Rattle.br_measure.specs.declared.fault.NameFault.TheVariants.{DuplicateFunct
 use Rattle.br_measure.specs.Names.{count_faults, call_faults, action_faults, joined, faults_step, command_faults, commands_faults, duplicates_after, name_faults}
 
 -- the same fault
-abbrev told : names.NameFault → NameFault
+abbrev pub told : names.NameFault → NameFault
 told (names.DuplicateFunction at) = DuplicateFunction at
 told (names.UnknownFunction at) = UnknownFunction at
 told (names.WrongArguments at) = WrongArguments at
