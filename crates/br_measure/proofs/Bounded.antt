@@ -1,9 +1,8 @@
 -- What a function of a small program may need fits 32 bits, where no function has a path of calls to
 -- itself: each function of a path counts once, and its buffers are bounded by its bulk.
-use Rattle.std.proofs.Common.{◌≡◌, ℕ, zero, suc, ◌+◌, ◌*◌, ◌%◌, ◌<◌, ◌≤◌, ◌⊎◌, eqb, nat_le, Bool, true, false, ◌&&◌, List, [], ◌∷◌, Option, Some, None, max, length, get_or, map, sum, refl, sym, ap, subst, ◌∙◌, arith, inl, inr, ⊎_elim, Contains}
+use Rattle.std.proofs.Common.{◌≡◌, ℕ, zero, suc, ◌+◌, ◌*◌, ◌%◌, ◌<◌, ◌≤◌, ◌⊎◌, eqb, nat_le, Bool, true, ◌&&◌, List, [], ◌∷◌, Option, Some, None, length, get_or, map, sum, refl, sym, ap, subst, ◌∙◌, arith, inl, inr, ⊎_elim, Contains}
 use Rattle.std.proofs.lemmas.Grind.{common_steps}
 use Rattle.std.proofs.lemmas.Bool.{and_parts, leb-true, cases_lt}
-use Rattle.std.proofs.lemmas.Option.{slice_get_within}
 use Rattle.std.specs.List.{list_all, slice_get}
 use Rattle.std.specs.Str.{bytes_eq}
 use Rattle.br_syntax.specs.declared.program.Cmd.{Cmd, roll-Cmd}
@@ -12,9 +11,9 @@ use Rattle.br_syntax.specs.declared.program.Cmd.TheFolds.{map-Cmd, fold-Cmd, fol
 use Rattle.br_syntax.specs.declared.program.Func.{Func}
 use Rattle.br_syntax.specs.Functions.{function_named, number_named}
 use Rattle.br_syntax.specs.Shape.{IsShaped, is_shaped_function, is_shaped_command, is_buffer_size, command_step as shape_step, are_names}
-use Rattle.br_measure.specs.Bulk.{bulk, function_bulk, command_bulk, commands_bulk, command_step}
+use Rattle.br_measure.specs.Bulk.{bulk, function_bulk, command_bulk, command_step}
 use Rattle.br_measure.specs.Measure.{nested_step, nested_buffers, measure, measure_within, largest}
-use Rattle.br_measure.specs.Paths.{callees, Calls, HasNoRecursion}
+use Rattle.br_measure.specs.Paths.{callees, HasNoRecursion}
 use Rattle.br_measure.proofs.Positions.{find_at_position, find_no_position}
 use Rattle.br_measure.proofs.Rounds.{needs_at, none_needs, get_or_map}
 use Rattle.br_measure.proofs.Depth.{weights_of, all_weights, weights_apart, Chain, chain_apart}

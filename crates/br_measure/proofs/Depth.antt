@@ -1,8 +1,8 @@
 -- Where no function has a path of calls to itself, a path has no more functions than the program, so
 -- that as many calls as functions reach all that a function may need.
-use Rattle.std.proofs.Common.{◌≡◌, ℕ, zero, suc, ◌+◌, ◌*◌, ◌<◌, ◌≤◌, Bool, true, false, ◌||◌, eqb, List, [], ◌∷◌, Option, Some, None, max, length, get_or, set, map, refl, sym, ap, ◌∙◌, arith, ⊎_elim, Contains}
-use Rattle.std.proofs.lemmas.Bool.{false≢true, cases_eq, or_cases, or_parts, eqb-true, false_from_ne_true, eqb-false}
-use Rattle.std.proofs.lemmas.List.{get_or-set_other, get_or_past}
+use Rattle.std.proofs.Common.{◌≡◌, ℕ, zero, suc, ◌+◌, ◌*◌, ◌<◌, ◌≤◌, true, false, eqb, List, [], ◌∷◌, Option, Some, None, length, get_or, set, map, refl, sym, ap, ◌∙◌, arith, ⊎_elim, Contains}
+use Rattle.std.proofs.lemmas.Bool.{false≢true, or_cases, or_parts, eqb-true, false_from_ne_true, eqb-false}
+use Rattle.std.proofs.lemmas.List.{get_or-set_other}
 use Rattle.std.proofs.lemmas.Option.{slice_get_within}
 use Rattle.std.specs.List.{slice_get}
 use Rattle.std.specs.Option.{unwrap_or, option_map}
@@ -14,7 +14,7 @@ use Rattle.br_measure.specs.Measure.{nested_buffers, measure, measure_within, la
 use Rattle.br_measure.specs.Paths.{callees, Calls, CallPath, HasNoRecursion}
 use Rattle.br_measure.specs.Table.{has}
 use Rattle.br_measure.proofs.Positions.{find_at_position, find_no_position}
-use Rattle.br_measure.proofs.Rounds.{needs_at, none_needs, get_or_map, map_length}
+use Rattle.br_measure.proofs.Rounds.{needs_at, none_needs}
 use Rattle.br_measure.proofs.TablePaths.{callee_within}
 
 -- numbers of which none stands twice

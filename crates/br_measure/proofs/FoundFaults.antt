@@ -9,10 +9,11 @@ use Rattle.std.specs.List.{All, position, slice_get}
 use Rattle.br_syntax.specs.declared.program.Func.{Func}
 use Rattle.br_measure.specs.declared.fault.NameFault.{NameFault}
 use Rattle.br_measure.specs.declared.fault.NameFault.TheVariants.{DuplicateFunction, UnknownFunction, WrongArguments, WrongResults, UnknownAction, TooLarge, Recursion, StackTooDeep}
+use Rattle.br_syntax.specs.NameFaults.{HasNoNameFault}
 use Rattle.br_syntax.specs.Shape.{IsShaped}
 use Rattle.br_measure.specs.Bulk.{bulk}
 use Rattle.br_measure.specs.Measure.{measure}
-use Rattle.br_measure.specs.Names.{place, name_faults, IsLowest, HasNoNameFault}
+use Rattle.br_measure.specs.Names.{place, name_faults, IsLowest}
 use Rattle.br_measure.specs.Paths.{HasNoRecursion}
 use Rattle.br_measure.specs.Lowest.{lower_of, lower, lowest}
 use Rattle.br_measure.specs.Table.{call_table, IsFirstLoop}
@@ -20,6 +21,7 @@ use Rattle.br_measure.specs.Faults.{IsRecursive, IsTooDeep, IsLaterFault, IsFaul
 use Rattle.br_measure.proofs.Positions.{no_position}
 use Rattle.br_measure.proofs.Bounded.{measure_fits}
 use Rattle.br_measure.proofs.Rounds.{get_or_map, same_items, map_length}
+use Rattle.br_measure.proofs.SameFaults.{no_fault_stands}
 use Rattle.br_measure.proofs.TablePaths.{path_in_table, path_of_table}
 
 -- the lowest fault that was computed
@@ -154,9 +156,9 @@ kept_within fs ms k shallow are inside =
 
 -- a program that has no fault
 
-no_name : (fs : List Func) → HasNoNameFault fs → (fault : NameFault) → IsLowest (name_faults fs) fault → ⊥
+pub no_name : (fs : List Func) → HasNoNameFault fs → (fault : NameFault) → IsLowest (name_faults fs) fault → ⊥
 no_name fs none fault lowest =
-    let empty : length (name_faults fs) ≡ 0 = ap (λ (xs : List NameFault). length xs) none in
+    let empty : length (name_faults fs) ≡ 0 = ap (λ (xs : List NameFault). length xs) (no_fault_stands fs none) in
     omega (arith, lowest.stands.1)
 
 not_deep : (fs : List Func) → All (λ f. measure fs f ≤ 1048576) fs → (f s : ℕ) → IsTooDeep fs f s → ⊥

@@ -7,7 +7,9 @@ pub mod Largest
 pub mod LowestParts
 pub mod Marking
 pub mod Numbered
+pub mod OneFault
 pub mod Positions
 pub mod Reach
 pub mod Rounds
+pub mod SameFaults
 pub mod TablePaths

@@ -2,10 +2,11 @@
 use Rattle.std.specs.Prelude.{◌≡◌, ℕ, ◌<◌, ◌≤◌, ◌⊎◌, List, Some, min, slice_get}
 use Rattle.std.specs.List.{All}
 use Rattle.br_syntax.specs.declared.program.Func.{Func}
+use Rattle.br_syntax.specs.NameFaults.{HasNoNameFault}
 use Rattle.br_measure.specs.declared.fault.NameFault.{NameFault}
 use Rattle.br_measure.specs.declared.fault.NameFault.TheVariants.{DuplicateFunction, UnknownFunction, WrongArguments, WrongResults, UnknownAction, TooLarge, Recursion, StackTooDeep}
 use Rattle.br_measure.specs.Bulk.{bulk}
-use Rattle.br_measure.specs.Names.{name_faults, IsLowest, HasNoNameFault}
+use Rattle.br_measure.specs.Names.{name_faults, IsLowest}
 use Rattle.br_measure.specs.Paths.{CallPath, HasNoRecursion}
 use Rattle.br_measure.specs.Measure.{measure}
 

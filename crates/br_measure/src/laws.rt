@@ -22,3 +22,8 @@ pub fn measures_add_up()
 pub fn sound_programs_have_no_fault()
     ensures { (fs : List Func) (fault : NameFault) → IsSound fs → IsFault fs fault → ⊥ }
 {}
+
+/// A program has at most one fault.
+pub fn faults_are_unique()
+    ensures { (fs : List Func) (first second : NameFault) → IsFault fs first → IsFault fs second → first ≡ second }
+{}

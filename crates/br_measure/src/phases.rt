@@ -6,7 +6,7 @@ ghost use Rattle.br_syntax.specs.declared.program.Func.{Func};
 ghost use Rattle.br_syntax.specs.Shape.{IsShaped};
 ghost use Rattle.br_measure.specs.Bulk.{bulk};
 ghost use Rattle.br_measure.specs.Measure.{measure};
-ghost use Rattle.br_measure.specs.Names.{HasNoNameFault};
+ghost use Rattle.br_syntax.specs.NameFaults.{HasNoNameFault};
 ghost use Rattle.br_measure.specs.Paths.{HasNoRecursion};
 ghost use Rattle.br_measure.specs.Table.{call_table};
 ghost use Rattle.br_measure.specs.Faults.{IsFault, IsSound};
