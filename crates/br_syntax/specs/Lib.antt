@@ -1,5 +1,6 @@
 pub mod Denotes
 pub mod Fault
+pub mod Faults
 pub mod Functions
 pub mod Law
 pub mod NameFaults
