@@ -18,15 +18,36 @@ use Rattle.br_syntax.specs.Word.{cmd_word}
 use Rattle.br_syntax.specs.declared.fault.ShapeFault.TheVariants.{BadForm}
 use Rattle.br_syntax.specs.Shaped.{Shaped, both, all, ◌<$>◌}
 use Rattle.br_syntax.specs.Denotes.{word_of, word_in, offset_of, name, name_in, names, names_in, arguments_from, target_of, interact_of, form_of, command_of, Places, WithPlaces, places, places_in, with_places, command, commands, body_of, function_of, function_list, function_in, function, functions}
-use Rattle.br_measure.specs.declared.fault.NameFault.{NameFault}
-use Rattle.br_measure.specs.declared.fault.NameFault.TheVariants.{WrongArguments, WrongResults, DuplicateFunction}
-use Rattle.br_measure.specs.Names.{count_faults, action_faults, faults_step, joined, command_faults, commands_faults, name_faults, duplicates_after, HasNoNameFault}
+use Rattle.br_syntax.specs.NameFaults as names
+use Rattle.br_syntax.specs.NameFaults.{NameFault, DuplicateFunction, UnknownFunction, WrongArguments, WrongResults, UnknownAction, HasNoNameFault}
 use Rattle.br_rv32im.specs.declared.instruction.Ins.{Ins}
 use Rattle.br_rv32im.specs.declared.instruction.Ins.TheVariants.{Store}
 use Rattle.br_rv32im.specs.declared.instruction.StoreOp.TheVariants.{Sw}
 use Rattle.br_compile.specs.SumCode.{expression_code, both_code, write_code, command_layer_code, command_code, in_turn_code, commands_code, function_code, shape_code, program_code}
 use Rattle.br_compile.specs.Unbuilt.{first_among, expression_unbuilt, command_unbuilt, command_unbuilt_in, command_list_unbuilt, is_empty_list, is_empty_list_in, function_unbuilt, function_unbuilt_in, function_list_unbuilt, program_unbuilt}
 use Rattle.br_compile.proofs.Built.{HasCode, AllHaveCode, arguments_have_code, both_none, chosen_none, first_none, both_parts_ok, made_ok}
+
+-- the definitions at the faults of names of the syntax
+abbrev count_faults : ℕ → ℕ → ℕ → ℕ → ℕ → List NameFault
+count_faults = names.count_faults NameFault DuplicateFunction UnknownFunction WrongArguments WrongResults UnknownAction
+
+abbrev action_faults : ℕ → ℕ → ℕ → List ℕ → List NameFault
+action_faults = names.action_faults NameFault DuplicateFunction UnknownFunction WrongArguments WrongResults UnknownAction
+
+abbrev joined : List (List NameFault) → List NameFault
+joined = names.joined_faults NameFault DuplicateFunction UnknownFunction WrongArguments WrongResults UnknownAction
+
+abbrev faults_step : List Func → Cmd-F (List NameFault) → List NameFault
+faults_step = names.faults_step NameFault DuplicateFunction UnknownFunction WrongArguments WrongResults UnknownAction
+
+abbrev command_faults : List Func → Cmd → List NameFault
+command_faults = names.command_faults NameFault DuplicateFunction UnknownFunction WrongArguments WrongResults UnknownAction
+
+abbrev commands_faults : List Func → List Cmd → List NameFault
+commands_faults = names.commands_faults NameFault DuplicateFunction UnknownFunction WrongArguments WrongResults UnknownAction
+
+abbrev duplicates_after : List Func → List Func → List NameFault
+duplicates_after = names.duplicates_after NameFault DuplicateFunction UnknownFunction WrongArguments WrongResults UnknownAction
 
 -- ---- a write of two sums
 
