@@ -1,6 +1,7 @@
 pub mod Bounded
 pub mod CalleeParts
 pub mod CommandFaults
+pub mod Decided
 pub mod Depth
 pub mod FoundFaults
 pub mod Largest

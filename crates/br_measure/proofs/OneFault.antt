@@ -1,12 +1,10 @@
 -- A program has at most one fault.
-use Rattle.std.proofs.Common.{◌≡◌, ℕ, zero, suc, ◌+◌, ◌*◌, ◌<◌, ◌≤◌, ◌⊎◌, List, [], ◌∷◌, Some, min, length, get_or, map, refl, sym, ap, subst, ◌∙◌, arith, ⊎_elim, Contains}
+use Rattle.std.proofs.Common.{◌≡◌, ℕ, zero, suc, ◌<◌, ◌≤◌, List, [], ◌∷◌, Some, length, get_or, map, sym, ap, subst, ◌∙◌, arith, ⊎_elim, Contains}
 use Rattle.std.proofs.lemmas.Bool.{cases_order}
-use Rattle.std.specs.List.{slice_get}
 use Rattle.br_syntax.specs.declared.program.Func.{Func}
 use Rattle.br_syntax.specs.NameFaults as names
 use Rattle.br_measure.specs.declared.fault.NameFault.{NameFault}
 use Rattle.br_measure.specs.declared.fault.NameFault.TheVariants.{DuplicateFunction, UnknownFunction, WrongArguments, WrongResults, UnknownAction, TooLarge, Recursion, StackTooDeep}
-use Rattle.br_measure.specs.Bulk.{bulk}
 use Rattle.br_measure.specs.Measure.{measure}
 use Rattle.br_measure.specs.Names.{place, name_faults, IsLowest}
 use Rattle.br_measure.specs.Faults.{IsRecursive, IsTooDeep, IsLaterFault, IsFault}

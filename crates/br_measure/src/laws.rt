@@ -1,6 +1,6 @@
 // Laws of the definitions. Each function does nothing: what it ensures is the law.
 
-ghost use Rattle.std.specs.Prelude.{◌≡◌, ℕ, ◌+◌, ◌*◌, List, Some, map, slice_get};
+ghost use Rattle.std.specs.Prelude.{◌≡◌, ℕ, ◌+◌, ◌*◌, ◌⊎◌, List, Some, map, slice_get};
 ghost use Rattle.std.specs.Option.{option_map, unwrap_or};
 ghost use Rattle.br_syntax.specs.declared.program.Func.{Func};
 ghost use Rattle.br_syntax.specs.Functions.{function_named};
@@ -26,4 +26,9 @@ pub fn sound_programs_have_no_fault()
 /// A program has at most one fault.
 pub fn faults_are_unique()
     ensures { (fs : List Func) (first second : NameFault) → IsFault fs first → IsFault fs second → first ≡ second }
+{}
+
+/// A program is sound or has a fault.
+pub fn programs_are_decided()
+    ensures { (fs : List Func) → IsSound fs ⊎ ((fault : NameFault) × IsFault fs fault) }
 {}

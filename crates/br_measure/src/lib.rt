@@ -17,7 +17,9 @@ mod phases;
 pub use bulk::bulk_of;
 pub use checking::{Checked, check};
 pub use fault::NameFault;
-pub use laws::{faults_are_unique, measures_add_up, sound_programs_have_no_fault};
+pub use laws::{
+    faults_are_unique, measures_add_up, programs_are_decided, sound_programs_have_no_fault,
+};
 
 #[cfg(test)]
 mod tests;
