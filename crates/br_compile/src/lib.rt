@@ -12,5 +12,5 @@ mod unbuilt;
 mod writes;
 
 pub use compiling::{MOST_BYTES, compile};
-pub use laws::{accepted_texts_have_no_fault, first_steps_show_a_run};
+pub use laws::{first_steps_show_a_run, texts_are_accepted_or_at_fault};
 pub use refusal::Refusal;
