@@ -8,6 +8,7 @@ use Rattle.std.specs.FinMap as map
 use Rattle.std.specs.Cmp.{nat_cmp_total}
 use Rattle.br_bytes.specs.Memory.{Memory, with_bytes}
 use Rattle.br_bytes.specs.Buffers.{are_free, without_range}
+use Rattle.br_bytes.specs.Ranges.{IsFirstTaken}
 use Rattle.br_bytes.proofs.Bytes.{get-with_bytes_other}
 
 pub get-without : (m : Memory) (a n q : ℕ) → map.get (without_range m a n) q ≡ cond (not (nat_le a q && nat_lt q (a + n))) (map.get m q) None
@@ -105,3 +106,15 @@ added_away bs m a n within e free = same_memory _ _ (λ q. go q (nat_lt q a) (na
 
 pub free_drop : (bs : List ℕ) (m : Memory) (a i : ℕ) → i ≤ length bs → are_free m a bs ≡ true → are_free m (a + i) (drop i bs) ≡ true
 free_drop bs m a i h free = free_from_none (drop i bs) m (a + i) (λ q low high. free_is_none bs m a q free (omega arith) (omega (arith, length-drop i bs)))
+
+-- where an address is taken, the range is not free
+pub taken_not_free : (bs : List ℕ) (m : Memory) (a at : ℕ) → IsFirstTaken m a (length bs) at → are_free m a bs ≡ false
+taken_not_free bs m a at h = go (are_free m a bs) refl
+  where
+    go : (b : Bool) → are_free m a bs ≡ b → are_free m a bs ≡ false
+    go false e = e
+    go true e = let none = free_is_none bs m a at e h.0 h.1 in absurd (clash (map.get m at) none h.2)
+      where
+        clash : (o : Option ℕ) → o ≡ None → is_some o ≡ true → ⊥
+        clash None e t = cc
+        clash (Some b) e t = cc

@@ -1,6 +1,6 @@
 // A memory that a program keeps: a finite map from addresses to bytes.
 
-ghost use Rattle.std.specs.Prelude.{◌≡◌, ℕ, ◌+◌, ◌-◌, ◌^◌, ◌<◌, ◌≤◌, length, Some, None, IfSome, is_some, IsTrue, Err, IfOk, OnOk, OnErr};
+ghost use Rattle.std.specs.Prelude.{◌≡◌, ℕ, ◌+◌, ◌-◌, ◌^◌, ◌<◌, ◌≤◌, length, false, Some, None, IfSome, is_some, IsTrue, Err, IfOk, OnOk, OnErr};
 ghost use Rattle.br_base.specs.declared.failure.OrMemory.TheVariants.{Fault};
 ghost use Rattle.std.specs.Bool.{OnTrue, OnFalse};
 ghost use Rattle.br_bytes.specs.Number.{low_bytes};
@@ -177,6 +177,7 @@ impl ByteMap {
         requires { a + length bytes.now ≤ 2 ^ 32 }
         ensures free { OnOk result (IsTrue (are_free self.old a bytes.now)) }
         ensures ok { OnOk result (self.new ≡ with_bytes self.old a bytes.now) }
+        ensures taken { (o : Overlap) → result ≡ Err (Fault o) → are_free self.old a bytes.now ≡ false }
         ensures overlap { (o : Overlap) → result ≡ Err (Fault o) → IsFirstTaken self.old a (length bytes.now) o.0 }
         ensures err { OnErr result (self.new ≡ self.old) }
     {
@@ -232,5 +233,13 @@ impl ByteMap {
             self.forget(a, 0, n as usize);
         }
         Ok(whole)
+    }
+
+    /// Takes whatever bytes there are among the n from `a` on away.
+    pub fn clear_range(&mut self, a: u32, n: u32)
+        requires { a + n ≤ 2 ^ 32 }
+        ensures { self.new ≡ without_range self.old a n }
+    {
+        self.forget(a, 0, n as usize);
     }
 }
