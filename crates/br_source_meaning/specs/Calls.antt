@@ -59,4 +59,4 @@ seen (Stops end s) = record { outcome = outcome_of end; trace = s.trace; memory 
 abbrev pub call : List Func → Func → List ℕ → Memory → List ℕ → List Choice → ℕ → Called
 call fs f args m answers choices fuel =
     seen (run_function (function_of fs fuel) f args
-        (record { locals = no_locals; memory = m; trace = []; answers = answers; choices = choices; fuel = fuel }))
+    (record { locals = no_locals; memory = m; trace = []; answers = answers; choices = choices; fuel = fuel }))

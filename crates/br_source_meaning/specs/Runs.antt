@@ -87,8 +87,8 @@ with_buffer x n body s = take_choice s.choices
     take_choice (c ∷ cs) =
         choose (is_good n s.memory c)
         (then_do
-            (body (record s { locals = with_local x c.addr s.locals; memory = with_bytes s.memory c.addr c.bytes; choices = cs }))
-            (λ t. Goes (record t { memory = without_range t.memory c.addr n })))
+        (body (record s { locals = with_local x c.addr s.locals; memory = with_bytes s.memory c.addr c.bytes; choices = cs }))
+        (λ t. Goes (record t { memory = without_range t.memory c.addr n })))
         (Ends NoChoice s)
 
 -- ---- loops
