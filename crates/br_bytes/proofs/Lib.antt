@@ -1,1 +1,4 @@
-mod Bytes
+pub mod Bytes
+pub mod Stored
+pub mod Away
+pub mod Whole

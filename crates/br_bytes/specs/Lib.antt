@@ -1,5 +1,6 @@
 pub mod Memory
 pub mod Number
 pub mod Buffers
+pub mod Ranges
 pub mod Called
 pub mod Layout

@@ -15,10 +15,10 @@ use Rattle.br_source_meaning.proofs.Leaves.{Takes, leaves-run_all}
 use Rattle.br_source_meaning.proofs.Widens.{More, widen, IsPutOff, Alike, AlikeCalls, AreAlike, fuel-goes, alike-loop, alike-deeper}
 
 -- nothing more
-abbrev none : More
+abbrev pub none : More
 none = record { fuel = 0; answers = []; choices = [] }
 
-widen-none : (s : State) → widen none s ≡ s
+pub widen-none : (s : State) → widen none s ≡ s
 widen-none s =
     ap (λ vs. record (widen none s) { answers = vs }) (append-nil s.answers)
     ∙ ap (λ cs. record s { choices = cs; fuel = s.fuel + 0 }) (append-nil s.choices)
@@ -42,7 +42,7 @@ alike_refl (Ends end t) = inl (ap (Ends end) (sym (widen-none t)))
 are_alike_refl : (f : State → Run) (n : ℕ) → AreAlike none n f f
 are_alike_refl f n s h = subst (λ t. Alike none (f s) (f t)) (sym (widen-none s)) (alike_refl (f s))
 
-same-alike_calls : (r q : Returned) → AlikeCalls none r q → q ≡ r
+pub same-alike_calls : (r q : Returned) → AlikeCalls none r q → q ≡ r
 same-alike_calls (Returns vs t) q h = h ∙ ap (Returns vs) (widen-none t)
 same-alike_calls (Stops end t) q (inl h) = h ∙ ap (Stops end) (widen-none t)
 same-alike_calls (Stops end t) q (inr h) = absurd (never_off end h.0)

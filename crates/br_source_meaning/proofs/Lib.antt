@@ -2,3 +2,5 @@ pub mod Leaves
 pub mod Widens
 pub mod Given
 pub mod Bounds
+pub mod Kept
+pub mod Deep

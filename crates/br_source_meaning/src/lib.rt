@@ -1,6 +1,12 @@
 //! What programs of the source language mean.
 #![tactic(auto)]
 
+mod commands;
+mod interp;
 mod laws;
+mod running;
+mod values;
+mod variables;
 
+pub use interp::{Finished, Interp};
 pub use laws::{bounds_do_not_show, longer_lists_stay, more_fuel_goes_on, runs_only_take};

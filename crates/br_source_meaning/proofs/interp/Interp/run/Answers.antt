@@ -1,0 +1,24 @@
+use Rattle.std.proofs.Common.{◌≡◌, ◌≤◌, ◌^◌, [], refl, sym, ap, ◌∙◌, arith}
+use Rattle.br_bytes.specs.Called.{Called}
+use Rattle.br_source_meaning.specs.Values.{no_locals}
+use Rattle.br_source_meaning.specs.Runs.{State, Returns, Stops}
+use Rattle.br_source_meaning.specs.Calls.{run_function, seen, call}
+use Rattle.br_source_meaning.specs.Running.{state_of, end_of, deep_calls}
+use Rattle.br_source_meaning.proofs.Deep.{deep-function}
+use Rattle.br_source_meaning.proofs.interp.Interp.run.Goals.{in-Ok, in-Err-Fault}
+use Rattle.br_source_meaning.proofs.interp.Interp.run.Goals as goal
+
+pub returns : goal.returns
+returns c =
+    let start : State = record { locals = no_locals; memory = c.args.self.memory; trace = []; answers = c.args.self.answers.now; choices = c.args.self.choices.now; fuel = c.args.fuel } in
+    let same = ap seen (deep-function c.args.self.program.now.funcs c.args.self.func.now c.args.self.args.now start (omega arith)) in
+    let begun = ap (λ fs. run_function (deep_calls fs) c.args.self.func.now c.args.self.args.now start) (sym c.as_slice-funcs.ensures)
+    ∙ ap (λ events. run_function (deep_calls c.as_slice-funcs.result.now) c.args.self.func.now c.args.self.args.now (record start { trace = events })) (sym c.new-2.ensures) in
+    elim c.match-function.branch [
+      | in-Ok w ↦
+          let ran : run_function (deep_calls c.args.self.program.now.funcs) c.args.self.func.now c.args.self.args.now start ≡ Returns w.in-Ok.words (state_of c.function.new.self) = begun ∙ w.in-Ok.ensures in
+          ap (λ o. record { outcome = o; trace = c.function.new.self.trace; memory = c.function.new.self.memory }) w.outcome-is ∙ (sym (ap seen ran) ∙ same)
+      | in-Err-Fault w ↦
+          let ran : run_function (deep_calls c.args.self.program.now.funcs) c.args.self.func.now c.args.self.args.now start ≡ Stops (end_of w.in-Err-Fault.stop) (state_of c.function.new.self) = begun ∙ (rw w.in-Err-Fault.field-0-is at w.in-Err-Fault.ensures) in
+          ap (λ o. record { outcome = o; trace = c.function.new.self.trace; memory = c.function.new.self.memory }) (w.outcome-is ∙ w.outcome_at-outcome.ensures) ∙ (sym (ap seen ran) ∙ same)
+    ]

@@ -1,0 +1,112 @@
+// The interpreter.
+
+ghost use Rattle.std.specs.Prelude.{◌≡◌, ◌<◌, length, slice_get, Some, IfOk};
+ghost use Rattle.br_syntax.specs.NameFaults.{HasNoNameFault};
+ghost use Rattle.br_source_meaning.specs.Calls.{call};
+ghost use Rattle.br_source_meaning.specs.Finished.{called_of, outcome_at};
+
+use crate::running::{Running, Stop};
+use crate::variables::Variables;
+use br_base::{NoMemory, OrMemory};
+use br_bytes::{ByteMap, Choice, Event, Outcome};
+use br_syntax::{Func, Program};
+use sqlite_items::Items;
+use std::alloc::Global;
+
+// How deep commands and calls may stand in one another before a run answers that there is no memory.
+const ROOM: u32 = 4096;
+
+/// A call of a function that is to be run: the program and its function, the words of the
+/// arguments, the memory, what device words will be read as in turn, and the buffers that will be
+/// given in turn.
+#[derive(Debug, Drop)]
+pub struct Interp<'a> {
+    alloc: Global,
+    pub program: &'a Program,
+    pub func: &'a Func,
+    pub args: &'a [u32],
+    pub memory: ByteMap,
+    pub answers: &'a [u32],
+    pub choices: &'a [Choice],
+}
+
+/// A run that has ended: how, its events with the oldest first, and the memory at that moment.
+#[derive(Debug, Drop)]
+pub struct Finished {
+    pub outcome: Outcome,
+    pub trace: Items<Event>,
+    pub memory: ByteMap,
+}
+
+impl<'a> Interp<'a> {
+    /// A call of a program's function by its number, counted from 0 in the order of the text. The
+    /// program has no fault of names, and there are as many words as the function has arguments.
+    pub fn new(
+        alloc: Global,
+        p: &'a Program,
+        func: u32,
+        args: &'a [u32],
+        memory: ByteMap,
+        answers: &'a [u32],
+        choices: &'a [Choice],
+    ) -> Result<Interp<'a>, NoMemory>
+        requires names { HasNoNameFault p.now.funcs }
+        requires there { func < length p.now.funcs }
+        ensures program { IfOk result (λ i. i.program.now ≡ p.now) }
+        ensures func { IfOk result (λ i. slice_get p.now.funcs func ≡ Some i.func.now) }
+        ensures args { IfOk result (λ i. i.args.now ≡ args.now) }
+        ensures memory { IfOk result (λ i. i.memory ≡ memory) }
+        ensures answers { IfOk result (λ i. i.answers.now ≡ answers.now) }
+        ensures choices { IfOk result (λ i. i.choices.now ≡ choices.now) }
+    {
+        Ok(Interp {
+            alloc,
+            program: p,
+            func: &p.funcs.as_slice()[func as usize],
+            args,
+            memory,
+            answers,
+            choices,
+        })
+    }
+
+    /// Runs the call from outside, with this fuel: how many turns of loops and calls may begin. The
+    /// run is the one that the language defines. Commands and calls that stand more than 4,096 deep
+    /// in one another are answered by `NoMemory`, as any want of memory is.
+    pub fn run(self, fuel: u32) -> Result<Finished, NoMemory>
+        ensures { IfOk result (λ done. called_of done ≡ call self.entry.program.now.funcs self.entry.func.now self.entry.args.now self.entry.memory self.entry.answers.now self.entry.choices.now fuel) }
+    {
+        let alloc = self.alloc;
+        let funcs = self.program.funcs.as_slice();
+        let mut running = Running {
+            variables: Variables::new(alloc),
+            memory: self.memory,
+            trace: Items::new(alloc),
+            answers: self.answers,
+            choices: self.choices,
+            fuel,
+        };
+        let outcome = match running.function(alloc, funcs, ROOM, self.func, self.args) {
+            Ok(words) => Outcome::Done(words),
+            Err(OrMemory::Fault(stop)) => outcome_at(stop),
+            Err(OrMemory::Memory) => return Err(NoMemory),
+        };
+        Ok(Finished {
+            outcome,
+            trace: running.trace,
+            memory: running.memory,
+        })
+    }
+}
+
+// How a run that stopped ended.
+fn outcome_at(stop: Stop) -> Outcome
+    ensures { result ≡ outcome_at stop }
+{
+    match stop {
+        Stop::Waiting(a) => Outcome::Waiting(a),
+        Stop::OutOfFuel => Outcome::OutOfFuel,
+        Stop::Undefined => Outcome::Undefined,
+        Stop::NoChoice => Outcome::NoChoice,
+    }
+}

@@ -1,0 +1,81 @@
+// The words of expressions.
+
+ghost use Rattle.std.specs.Prelude.{◌≡◌, IfOk};
+ghost use Rattle.std.specs.Option.{option_map};
+ghost use Rattle.br_words.specs.Size.{size_of};
+ghost use Rattle.br_bytes.specs.Buffers.{table_number};
+ghost use Rattle.br_source_meaning.specs.Values.{value, values};
+ghost use Rattle.br_source_meaning.specs.Variables.{locals_of};
+
+use crate::variables::Variables;
+use br_base::NoMemory;
+use br_bytes::ByteMap;
+use br_syntax::Expr;
+use br_words::{Size, op};
+use std::alloc::Global;
+
+/// The word that an expression stands for, where it stands for one.
+pub(crate) fn value(variables: &Variables, memory: &ByteMap, e: &Expr) -> Option<u32>
+    ensures { result ≡ value (locals_of variables.now.words) memory.now e.now }
+{
+    match e {
+        Expr::Literal(n) => Some(*n),
+        Expr::Var(x) => variables.get(x),
+        Expr::Load(size, a) => {
+            let a = value(variables, memory, a.get())?;
+            memory.read(a, *size)
+        }
+        Expr::Table(size, bytes, i) => {
+            let i = value(variables, memory, i.get())?;
+            table_number(bytes.as_slice(), i, *size)
+        }
+        Expr::Op(o, a, b) => {
+            let a = value(variables, memory, a.get())?;
+            let b = value(variables, memory, b.get())?;
+            Some(op(*o, a, b))
+        }
+    }
+}
+
+// The bytes at an offset of a table as a number, the lowest first, where all lie in the table.
+fn table_number(bytes: &[u8], i: u32, size: Size) -> Option<u32>
+    ensures { result ≡ table_number bytes.now i (size_of size) }
+{
+    let i = i as usize;
+    match size {
+        Size::One => match bytes.get(i..i + 1)? {
+            [first] => Some(u32::from(*first)),
+            _ => None,
+        },
+        Size::Two => match bytes.get(i..i + 2)? {
+            [first, second] => Some(u32::from(*first) + 256 * u32::from(*second)),
+            _ => None,
+        },
+        Size::Four => match bytes.get(i..i + 4)? {
+            [first, second, third, fourth] => {
+                let high = u32::from(*third) + 256 * u32::from(*fourth);
+                Some(u32::from(*first) + 256 * (u32::from(*second) + 256 * high))
+            }
+            _ => None,
+        },
+    }
+}
+
+/// The words of expressions in turn, where each stands for one.
+pub(crate) fn values(
+    alloc: Global,
+    variables: &Variables,
+    memory: &ByteMap,
+    es: &[Expr],
+) -> Result<Option<Vec<u32>>, NoMemory>
+    ensures { IfOk result (λ vs. option_map (λ v. v.items) vs ≡ values (locals_of variables.now.words) memory.now es.now) }
+{
+    let mut words = Vec::new(alloc);
+    for e in es {
+        match value(variables, memory, e) {
+            Some(word) => words.push(word)?,
+            None => return Ok(None),
+        }
+    }
+    Ok(Some(words))
+}
