@@ -1,5 +1,5 @@
 -- Loops and calls, where calls may go deeper than the fuel reaches.
-use Rattle.std.proofs.Common.{◌≡◌, ◌≢◌, ℕ, zero, suc, ◌^◌, ◌<◌, ◌≤◌, ◌==◌, Bool, true, false, List, Option, Some, None, refl, sym, ap, subst, ◌∙◌, arith}
+use Rattle.std.proofs.Common.{◌≡◌, ◌≢◌, ℕ, zero, suc, ◌^◌, ◌<◌, ◌≤◌, ◌==◌, false, List, Option, Some, refl, ap, subst, ◌∙◌, arith}
 use Rattle.std.proofs.lemmas.Bool.Decides.{nat_tests}
 use Rattle.br_syntax.specs.declared.program.Expr.{Expr}
 use Rattle.br_syntax.specs.declared.program.Cmd.{Cmd}
@@ -7,7 +7,7 @@ use Rattle.br_syntax.specs.declared.program.Cmd.TheVariants.{While}
 use Rattle.br_syntax.specs.declared.program.Func.{Func}
 use Rattle.br_syntax.specs.Functions.{function_named}
 use Rattle.br_source_meaning.specs.Values.{Name, value}
-use Rattle.br_source_meaning.specs.Runs.{State, End, OutOfFuel, Run, Goes, Ends, then_do, with_defined, choose, with_fuel, Callee, Returned, back_in, run, run_all}
+use Rattle.br_source_meaning.specs.Runs.{State, End, Run, Goes, Ends, then_do, with_defined, choose, with_fuel, back_in, run, run_all}
 use Rattle.br_source_meaning.specs.Calls.{enter, function_of, run_function}
 use Rattle.br_source_meaning.specs.Left.{OnlyTakes}
 use Rattle.br_source_meaning.specs.Running.{deep_calls}

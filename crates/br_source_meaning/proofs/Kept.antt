@@ -1,12 +1,12 @@
 -- Lemmas on variables as they are kept.
-use Rattle.std.proofs.Common.{◌≡◌, ℕ, List, Option, Some, None, Bor, cond, refl, sym, ap, ◌∙◌}
+use Rattle.std.proofs.Common.{◌≡◌, ℕ, List, Some, None, Bor, cond, ap, ◌∙◌}
 use Rattle.std.specs.Ordering.{nat_cmp}
 use Rattle.std.specs.Str.{bytes_eq}
 use Rattle.std.specs.Cmp.Lexicographic.{slice_cmp}
 use Rattle.std.specs.BTreeMap as tree
 use Rattle.std.proofs.lemmas.Cmp.{nat_list_eq_equiv}
 use Rattle.std.proofs.lemmas.Map.Text.{btree_map_updates_str}
-use Rattle.br_source_meaning.specs.Values.{Name, Locals, with_local, without_local}
+use Rattle.br_source_meaning.specs.Values.{Name, with_local, without_local}
 use Rattle.br_source_meaning.specs.Variables.{locals_of}
 
 bytes_eq-swap : (xs ys : List ℕ) → bytes_eq xs ys ≡ bytes_eq ys xs

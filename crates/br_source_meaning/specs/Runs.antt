@@ -2,7 +2,7 @@
 -- language is a profile after bedrock2's (Integration Verification across Software and Hardware for a
 -- Simple Embedded System, PLDI 2021): memory is partial, devices are asked from outside, and the
 -- places of buffers are chosen from outside.
-use Rattle.std.specs.Prelude.{ℕ, zero, suc, ◌+◌, ◌%◌, Bool, true, false, not, ◌&&◌, List, [], ◌∷◌, ◌++◌, length, map, Option, Some, None, nat_lt, nat_le, ◌==◌, codes}
+use Rattle.std.specs.Prelude.{ℕ, zero, suc, Bool, true, false, List, [], ◌∷◌, ◌++◌, map, Option, Some, None, ◌==◌, codes}
 use Rattle.std.specs.Str.{bytes_eq}
 use Rattle.br_words.specs.Device.{is_device_word}
 use Rattle.br_words.specs.Size.{size_of}

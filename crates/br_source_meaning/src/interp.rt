@@ -1,7 +1,6 @@
 // The interpreter.
 
 ghost use Rattle.std.specs.Prelude.{◌≡◌, ◌<◌, length, slice_get, Some, IfOk};
-ghost use Rattle.br_syntax.specs.NameFaults.{HasNoNameFault};
 ghost use Rattle.br_source_meaning.specs.Calls.{call};
 ghost use Rattle.br_source_meaning.specs.Finished.{called_of, outcome_at};
 
@@ -39,8 +38,9 @@ pub struct Finished {
 }
 
 impl<'a> Interp<'a> {
-    /// A call of a program's function by its number, counted from 0 in the order of the text. The
-    /// program has no fault of names, and there are as many words as the function has arguments.
+    /// A call of a program's function by its number, counted from 0 in the order of the text. An
+    /// accepted program has no fault of names, and its functions are given as many words as they
+    /// have arguments; what other calls do is defined as well.
     pub fn new(
         alloc: Global,
         p: &'a Program,
@@ -50,8 +50,7 @@ impl<'a> Interp<'a> {
         answers: &'a [u32],
         choices: &'a [Choice],
     ) -> Result<Interp<'a>, NoMemory>
-        requires names { HasNoNameFault p.now.funcs }
-        requires there { func < length p.now.funcs }
+        requires { func < length p.now.funcs }
         ensures program { IfOk result (λ i. i.program.now ≡ p.now) }
         ensures func { IfOk result (λ i. slice_get p.now.funcs func ≡ Some i.func.now) }
         ensures args { IfOk result (λ i. i.args.now ≡ args.now) }

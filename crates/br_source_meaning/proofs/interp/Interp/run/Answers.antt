@@ -1,8 +1,7 @@
-use Rattle.std.proofs.Common.{◌≡◌, ◌≤◌, ◌^◌, [], refl, sym, ap, ◌∙◌, arith}
-use Rattle.br_bytes.specs.Called.{Called}
+use Rattle.std.proofs.Common.{◌≡◌, [], sym, ap, ◌∙◌, arith}
 use Rattle.br_source_meaning.specs.Values.{no_locals}
 use Rattle.br_source_meaning.specs.Runs.{State, Returns, Stops}
-use Rattle.br_source_meaning.specs.Calls.{run_function, seen, call}
+use Rattle.br_source_meaning.specs.Calls.{run_function, seen}
 use Rattle.br_source_meaning.specs.Running.{state_of, end_of, deep_calls}
 use Rattle.br_source_meaning.proofs.Deep.{deep-function}
 use Rattle.br_source_meaning.proofs.interp.Interp.run.Goals.{in-Ok, in-Err-Fault}

@@ -1,9 +1,8 @@
-use Rattle.std.proofs.Common.{rules, ◌≡◌, ◌≢◌, ℕ, Some, None, refl, sym, ap, subst, ◌∙◌, arith}
+use Rattle.std.proofs.Common.{rules, ◌≡◌, Some, None, sym, ap, subst, ◌∙◌, arith}
 use Rattle.std.proofs.lemmas.Grind.{common_steps}
-use Rattle.br_syntax.specs.declared.program.Cmd.TheVariants.{While}
 use Rattle.br_syntax.specs.Functions.{function_named}
 use Rattle.br_source_meaning.specs.Values.{values}
-use Rattle.br_source_meaning.specs.Runs.{run, run_all, Goes, Returns, back_in, with_locals}
+use Rattle.br_source_meaning.specs.Runs.{Goes, Returns, back_in, with_locals}
 use Rattle.br_source_meaning.specs.Calls.{enter, run_function}
 use Rattle.br_source_meaning.specs.Variables.{locals_of}
 use Rattle.br_source_meaning.specs.Running.{state_of, deep_calls, Leads}

@@ -1,0 +1,208 @@
+// Programs that are run.
+
+use crate::{Finished, Interp};
+use br_bytes::{ByteMap, Choice, Event, Outcome};
+use br_sexpr::read;
+use br_syntax::from_tree;
+use br_words::Size;
+use sqlite_items::Items;
+use std::alloc::Global;
+use std::fmt::Write;
+use std::test::Fail;
+
+// What a run is given: the words of the arguments, bytes in memory from an address on, the words
+// that devices are read as, the bytes of a buffer at the start of the stack region, and fuel.
+#[derive(Clone, Copy)]
+struct Given {
+    args: &'static [u32],
+    memory: (u32, &'static [u8]),
+    answers: &'static [u32],
+    buffer: &'static [u8],
+    fuel: u32,
+}
+
+const NOTHING: Given = Given {
+    args: &[],
+    memory: (0, b""),
+    answers: &[],
+    buffer: b"",
+    fuel: 1000,
+};
+
+// Runs the first function of a text.
+fn run(alloc: Global, text: &str, given: &Given) -> Result<Finished, Fail> {
+    if text.len() > 1_048_576 {
+        return Err(Fail::new("a long text"));
+    }
+    let program = from_tree(alloc, read(alloc, text.as_bytes())?.as_slice())?;
+    let mut memory = ByteMap::new(alloc);
+    let (a, bytes) = given.memory;
+    if a > 0x80300000 || bytes.len() > 100 || program.funcs.is_empty() {
+        return Err(Fail::new("no such run"));
+    }
+    memory.add_range(a, bytes)?;
+    let mut choices = Vec::new(alloc);
+    if !given.buffer.is_empty() {
+        choices.push(Choice {
+            addr: 0x80200000,
+            bytes: Items::from_slice(alloc, given.buffer)?,
+        })?;
+    }
+    let interp = Interp::new(
+        alloc,
+        &program,
+        0,
+        given.args,
+        memory,
+        given.answers,
+        choices.as_slice(),
+    )?;
+    Ok(interp.run(given.fuel)?)
+}
+
+// The events and the end of a run, separated by commas.
+fn shown(alloc: Global, done: &Finished) -> Result<String, Fail> {
+    let mut text = String::new(alloc);
+    for event in done.trace.as_slice() {
+        match event {
+            Event::Read(a, v) => write!(text, "read {a:08x} {v:08x}, ")?,
+            Event::Write(a, v) => write!(text, "write {a:08x} {v:08x}, ")?,
+        }
+    }
+    match &done.outcome {
+        Outcome::Done(words) => {
+            write!(text, "done")?;
+            for word in words.as_slice() {
+                write!(text, " {word:08x}")?;
+            }
+        }
+        Outcome::Waiting(a) => write!(text, "waiting {a:08x}")?,
+        Outcome::OutOfFuel => write!(text, "outoffuel")?,
+        Outcome::Undefined => write!(text, "undefined")?,
+        Outcome::NoChoice => write!(text, "nochoice")?,
+    }
+    Ok(text)
+}
+
+#[test]
+fn expressions_and_memory(rt: HostRuntime) -> Result<(), Fail> {
+    let last_byte = Given {
+        memory: (0x801fffff, b"\x00"),
+        ..NOTHING
+    };
+    let at_two = Given {
+        args: &[2],
+        ..NOTHING
+    };
+    let at_three = Given {
+        args: &[3],
+        ..NOTHING
+    };
+    let rows = [
+        (
+            "(fn main () (a b c) (set a (divu 7 0)) (set b (remu 7 0)) (set c (srs 0x80000000 33)))",
+            NOTHING,
+            "done ffffffff 00000007 c0000000",
+        ),
+        (
+            "(fn main () () (store4 0x801FFFFF 1))",
+            last_byte,
+            "undefined",
+        ),
+        (
+            "(fn main (i) (r) (set r (table2 (1 2 3 4) i)))",
+            at_two,
+            "done 00000403",
+        ),
+        (
+            "(fn main (i) (r) (set r (table2 (1 2 3 4) i)))",
+            at_three,
+            "undefined",
+        ),
+    ];
+    for (text, given, expected) in rows {
+        let done = run(rt.alloc(), text, &given)?;
+        assert_eq!(rt; shown(rt.alloc(), &done)?.as_str(), expected, "in {text}");
+    }
+    let eight = Given {
+        memory: (0x80100000, b"\x00\x00\x00\x00\x00\x00\x00\x00"),
+        ..NOTHING
+    };
+    let store = "(fn main () (r) (store2 0x80100001 0x1234) (set r (load4 0x80100001)))";
+    let done = run(rt.alloc(), store, &eight)?;
+    assert_eq!(rt; shown(rt.alloc(), &done)?.as_str(), "done 00001234");
+    assert_eq!(rt; done.memory.read(0x80100000, Size::Four), Some(0x00123400));
+    assert_eq!(rt; done.memory.read(0x80100004, Size::Four), Some(0));
+    Ok(())
+}
+
+#[test]
+fn devices_and_buffers(rt: HostRuntime) -> Result<(), Fail> {
+    let answered = Given {
+        answers: &[5],
+        ..NOTHING
+    };
+    let chosen = Given {
+        buffer: b"\x44\x33\x22\x11\x44\x33\x22\x11\x44\x33\x22\x11\x44\x33\x22\x11",
+        ..NOTHING
+    };
+    let devices =
+        "(fn main () (r) (interact () MMIOWRITE 0x10012008 1) (interact (r) MMIOREAD 0x1001200C))";
+    let buffer = "(fn main () () (stackalloc p 16 (interact () MMIOWRITE 0x1001200C (load4 p))))";
+    let rows = [
+        (
+            devices,
+            NOTHING,
+            "write 10012008 00000001, waiting 1001200c",
+        ),
+        (
+            devices,
+            answered,
+            "write 10012008 00000001, read 1001200c 00000005, done 00000005",
+        ),
+        (
+            "(fn main () (r) (interact (r) MMIOREAD 0x80100000))",
+            NOTHING,
+            "undefined",
+        ),
+        (
+            "(fn main () (r) (interact (r) MMIOREAD 0x1001200E))",
+            NOTHING,
+            "undefined",
+        ),
+        (buffer, NOTHING, "nochoice"),
+        (buffer, chosen, "write 1001200c 11223344, done"),
+    ];
+    for (text, given, expected) in rows {
+        let done = run(rt.alloc(), text, &given)?;
+        assert_eq!(rt; shown(rt.alloc(), &done)?.as_str(), expected, "in {text}");
+    }
+    Ok(())
+}
+
+#[test]
+fn loops_and_calls(rt: HostRuntime) -> Result<(), Fail> {
+    let no_fuel = Given { fuel: 0, ..NOTHING };
+    let one_call = Given { fuel: 1, ..NOTHING };
+    let call = "(fn main () () (call () f)) (fn f () ())";
+    let rows = [
+        ("(fn main () () (while 1))", NOTHING, "outoffuel"),
+        (
+            "(fn main () (r) (set r 1) (call (r) f)) (fn f () (r))",
+            NOTHING,
+            "undefined",
+        ),
+        (call, no_fuel, "outoffuel"),
+        (call, one_call, "done"),
+        (
+            "(fn main () (n s) (set n 3) (set s 0) (while n (call (s) add n s) (set n (sub n 1)))) (fn add (a b) (s) (set s (add a b)))",
+            NOTHING,
+            "done 00000000 00000006",
+        ),
+    ];
+    for (text, given, expected) in rows {
+        let done = run(rt.alloc(), text, &given)?;
+        assert_eq!(rt; shown(rt.alloc(), &done)?.as_str(), expected, "in {text}");
+    }
+    Ok(())
+}
