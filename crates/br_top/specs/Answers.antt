@@ -1,12 +1,12 @@
 -- What each answer of the top call says of its ends.
-use Rattle.std.specs.Prelude.{ℕ, ◌≡◌, ◌+◌, ◌≤◌, List, length, Option, ◌⊎◌, ⊤, String}
+use Rattle.std.specs.Prelude.{ℕ, ◌≡◌, ◌+◌, ◌≤◌, List, length, Option, ◌⊎◌, String}
 use Rattle.std.specs.declared.alloc.Global.{Global}
 use Rattle.std.specs.Io.KnownBytes.{Consumes, IsAtEnd}
 use Rattle.br_base.specs.Ends.{ConsumesMany}
-use Rattle.br_compile.specs.declared.refusal.Refusal.{Refusal}
-use Rattle.br_compile.specs.declared.refusal.Refusal.TheVariants.{InputTooLong, Text, Shape, Names, NotYet}
 use Rattle.br_top.specs.declared.command.Command.{Command}
-use Rattle.br_top.specs.Refusals.{refusal_line}
+use Rattle.br_top.specs.declared.trouble.Reason.{Reason}
+use Rattle.br_top.specs.declared.trouble.Reason.TheVariants.{TooLong}
+use Rattle.br_top.specs.Refusals.{reason_line}
 use Rattle.br_top.specs.Commands.{AreWordsOf, limit_of, Adds, Refuses}
 
 -- The bytes that an end tells, before a call and after it, are written `before` and `after`.
@@ -19,10 +19,10 @@ pub record ReadsAll (command : Command) (before after : Option (List ℕ)) (byte
 
 -- what was read of a command's input is refused for this reason: it was read to the byte behind the
 -- limit, or to its end, and the command refuses these bytes
-abbrev pub ReadsRefused : Command → Option (List ℕ) → Option (List ℕ) → Refusal → Type 0
-ReadsRefused command before after refusal =
-    ((refusal ≡ InputTooLong) × ConsumesMany before after (limit_of command + 1))
-    ⊎ ((bytes : List ℕ) × ReadsAll command before after bytes × Refuses command bytes refusal)
+abbrev pub ReadsRefused : Command → Option (List ℕ) → Option (List ℕ) → Reason → Type 0
+ReadsRefused command before after reason =
+    ((reason ≡ TooLong) × ConsumesMany before after (limit_of command + 1))
+    ⊎ ((bytes : List ℕ) × ReadsAll command before after bytes × Refuses command bytes reason)
 
 -- the words are a command's, its input was read to its end, and it adds this text for its bytes
 abbrev pub IsDueText : List (String Global) → Option (List ℕ) → Option (List ℕ) → List ℕ → Type 0
@@ -32,20 +32,8 @@ IsDueText words before after text =
 -- the words are a command's, what was read of its input is refused, and this line says why
 abbrev pub IsDueLine : List (String Global) → Option (List ℕ) → Option (List ℕ) → List ℕ → Type 0
 IsDueLine words before after line =
-    (command : Command) × (refusal : Refusal) × AreWordsOf words command × ReadsRefused command before after refusal × (line ≡ refusal_line refusal)
-
--- no text is due for an input of these bytes
-abbrev pub HasNoText : Command → List ℕ → Type 0
-HasNoText command bytes = (text : List ℕ) → ¬ Adds command bytes text
+    (command : Command) × (reason : Reason) × AreWordsOf words command × ReadsRefused command before after reason × (line ≡ reason_line reason)
 
 -- nothing refuses an input of these bytes
 abbrev pub IsUnrefused : Command → List ℕ → Type 0
-IsUnrefused command bytes = (length bytes ≤ limit_of command) × ((refusal : Refusal) → ¬ Refuses command bytes refusal)
-
--- the refusal is for a form that is not built yet
-abbrev pub IsNotYet : Refusal → Type 0
-IsNotYet (NotYet at) = ⊤
-IsNotYet InputTooLong = ⊥
-IsNotYet (Text fault) = ⊥
-IsNotYet (Shape fault) = ⊥
-IsNotYet (Names fault) = ⊥
+IsUnrefused command bytes = (reason : Reason) → ¬ Refuses command bytes reason

@@ -1,19 +1,30 @@
--- The commands: their words, how much they read, and what they make of it.
-use Rattle.std.specs.Prelude.{ℕ, ◌≡◌, List, [], ◌∷◌, codes, map, String}
+-- The commands: their words, how much they read, what they make of it, and what they refuse.
+use Rattle.std.specs.Prelude.{ℕ, ◌≡◌, ◌<◌, List, [], ◌∷◌, length, codes, map, ⊤, String}
 use Rattle.std.specs.declared.alloc.Global.{Global}
 use Rattle.std.specs.String.{string_bytes}
-use Rattle.br_image.specs.declared.images.Image.{Image}
-use Rattle.br_image.specs.Printed.{image_text}
-use Rattle.br_compile.specs.declared.refusal.Refusal.{Refusal}
+use Rattle.br_sexpr.specs.declared.tree.Tree.{Tree}
+use Rattle.br_sexpr.specs.Reads.{Reads}
+use Rattle.br_sexpr.specs.Canonical.{canonical}
 use Rattle.br_syntax.specs.declared.program.Func.{Func}
+use Rattle.br_syntax.specs.Denotes.{Denotes}
+use Rattle.br_image.specs.declared.images.Image.{Image as ProgramImage}
+use Rattle.br_image.specs.Printed.{image_text}
+use Rattle.br_image.specs.Faults.{IsFault}
+use Rattle.br_listing.specs.Text.{list_text}
+use Rattle.br_compile.specs.declared.refusal.Refusal.{Refusal}
+use Rattle.br_compile.specs.declared.refusal.Refusal.TheVariants.{InputTooLong, Text, Shape, Names, NotYet}
 use Rattle.br_compile.specs.Refusal.{Accepts, IsRefusal}
 use Rattle.br_compile.specs.Implements.{Implements}
 use Rattle.br_top.specs.declared.command.Command.{Command}
-use Rattle.br_top.specs.declared.command.Command.TheVariants.{Compile}
+use Rattle.br_top.specs.declared.command.Command.TheVariants.{Compile, Print, List as Listing}
+use Rattle.br_top.specs.declared.trouble.Reason.{Reason}
+use Rattle.br_top.specs.declared.trouble.Reason.TheVariants.{TooLong, Source, Image}
 
 -- the words of a command
 abbrev pub words_of : Command → List (List ℕ)
 words_of Compile = codes "compile" ∷ []
+words_of Print = codes "print" ∷ []
+words_of Listing = codes "list" ∷ []
 
 -- these texts are the words of the command
 abbrev pub AreWordsOf : List (String Global) → Command → Type 0
@@ -26,13 +37,51 @@ AreWords words = (command : Command) × AreWordsOf words command
 -- how many bytes of input a command reads at most
 abbrev pub limit_of : Command → ℕ
 limit_of Compile = 1048576
+limit_of Print = 1048576
+limit_of Listing = 16777216
 
--- for these bytes the command adds this text to its output: the bytes are the text of an accepted
--- program, and what is added is the text of an image that implements it
+-- the text of an image that implements the program of these bytes, which are an accepted text
+pub record AddsImage (bytes text : List ℕ) : Type 0 where
+  pub program : List Func
+  pub image : ProgramImage
+  pub accepted : Accepts bytes program
+  pub implemented : Implements image program
+  pub printed : text ≡ image_text image
+
+-- the canonical text of the trees that these bytes are read as, which stand for a program
+pub record AddsCanonical (bytes text : List ℕ) : Type 0 where
+  pub trees : List Tree
+  pub program : List Func
+  pub read : Reads bytes trees
+  pub denoted : Denotes trees program
+  pub printed : text ≡ canonical trees
+
+-- the listing of the image that these bytes are the text of
+pub record AddsListing (bytes text : List ℕ) : Type 0 where
+  pub image : ProgramImage
+  pub read : bytes ≡ image_text image
+  pub listed : text ≡ list_text image
+
+-- for these bytes the command adds this text to its output
 abbrev pub Adds : Command → List ℕ → List ℕ → Type 0
-Adds Compile bytes text =
-    (program : List Func) × (image : Image) × Accepts bytes program × Implements image program × (text ≡ image_text image)
+Adds Compile bytes text = AddsImage bytes text
+Adds Print bytes text = AddsCanonical bytes text
+Adds Listing bytes text = AddsListing bytes text
+
+-- the refusal is for a fault of the text or of its shape, which come before all others
+abbrev pub IsOfShape : Refusal → Type 0
+IsOfShape InputTooLong = ⊥
+IsOfShape (Text fault) = ⊤
+IsOfShape (Shape fault) = ⊤
+IsOfShape (Names fault) = ⊥
+IsOfShape (NotYet at) = ⊥
 
 -- the command refuses these bytes, for this reason
-abbrev pub Refuses : Command → List ℕ → Refusal → Type 0
-Refuses Compile bytes refusal = IsRefusal bytes refusal
+abbrev pub Refuses : Command → List ℕ → Reason → Type 0
+Refuses command bytes TooLong = limit_of command < length bytes
+Refuses Compile bytes (Source refusal) = IsRefusal bytes refusal
+Refuses Compile bytes (Image fault) = ⊥
+Refuses Print bytes (Source refusal) = IsRefusal bytes refusal × IsOfShape refusal
+Refuses Print bytes (Image fault) = ⊥
+Refuses Listing bytes (Source refusal) = ⊥
+Refuses Listing bytes (Image fault) = IsFault bytes fault

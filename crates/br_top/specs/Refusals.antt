@@ -10,6 +10,10 @@ use Rattle.br_measure.specs.declared.fault.NameFault.{NameFault}
 use Rattle.br_measure.specs.declared.fault.NameFault.TheVariants.{DuplicateFunction, UnknownFunction, WrongArguments, WrongResults, UnknownAction, TooLarge, Recursion, StackTooDeep}
 use Rattle.br_compile.specs.declared.refusal.Refusal.{Refusal}
 use Rattle.br_compile.specs.declared.refusal.Refusal.TheVariants.{InputTooLong, Text, Shape, Names, NotYet}
+use Rattle.br_image.specs.declared.faults.ImageFault.{ImageFault}
+use Rattle.br_image.specs.declared.faults.ImageFault.TheVariants.{BadLine, BadOrder, BadOffset, Truncated}
+use Rattle.br_top.specs.declared.trouble.Reason.{Reason}
+use Rattle.br_top.specs.declared.trouble.Reason.TheVariants.{TooLong, Source, Image}
 use Rattle.br_top.specs.Lines.{error_line}
 
 -- each number in decimal, after one space
@@ -50,3 +54,14 @@ refusal_line (Text fault) = text_fault_line fault
 refusal_line (Shape fault) = shape_fault_line fault
 refusal_line (Names fault) = name_fault_line fault
 refusal_line (NotYet at) = refused_line (codes "NotYet") (at ∷ [])
+
+abbrev pub image_fault_line : ImageFault → List ℕ
+image_fault_line (BadLine n) = refused_line (codes "BadLine") (n ∷ [])
+image_fault_line (BadOrder n) = refused_line (codes "BadOrder") (n ∷ [])
+image_fault_line (BadOffset n) = refused_line (codes "BadOffset") (n ∷ [])
+image_fault_line (Truncated n) = refused_line (codes "Truncated") (n ∷ [])
+
+abbrev pub reason_line : Reason → List ℕ
+reason_line TooLong = refused_line (codes "InputTooLong") []
+reason_line (Source refusal) = refusal_line refusal
+reason_line (Image fault) = image_fault_line fault

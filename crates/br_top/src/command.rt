@@ -1,13 +1,17 @@
-// The commands, and their words.
+// The commands, their words, and how much they read.
 
 ghost use Rattle.std.specs.Prelude.{◌≡◌, ◌↔◌, IsTrue, MatchOption, string_bytes};
-ghost use Rattle.br_top.specs.Commands.{AreWordsOf, AreWords};
+ghost use Rattle.br_top.specs.Commands.{AreWordsOf, AreWords, limit_of};
 
 /// What the program can be asked to do.
 #[derive(Clone, Copy, Debug, PartialEq, Eq)]
 pub enum Command {
     /// From a source text on the input to the text of its image.
     Compile,
+    /// From a source text on the input to the canonical text of the same trees.
+    Print,
+    /// From the text of an image on the input to its listing.
+    List,
 }
 
 /// The command with these words, which leave out the program's own name.
@@ -16,6 +20,8 @@ pub(crate) fn command_of(words: &[String]) -> Option<Command>
 {
     match words {
         [word] if is_text(word, "compile") => Some(Command::Compile),
+        [word] if is_text(word, "print") => Some(Command::Print),
+        [word] if is_text(word, "list") => Some(Command::List),
         _ => None,
     }
 }
@@ -24,4 +30,20 @@ fn is_text(word: &String, text: &str) -> bool
     ensures { IsTrue result ↔ (string_bytes word.now ≡ text.now) }
 {
     word.as_str() == text
+}
+
+/// How many bytes a source text has at most.
+const SOURCE_LIMIT: usize = 1_048_576;
+
+/// How many bytes the text of an image has at most.
+const IMAGE_LIMIT: usize = 16_777_216;
+
+/// How many bytes of input a command reads at most.
+pub(crate) fn limit_of(command: Command) -> usize
+    ensures { result ≡ limit_of command }
+{
+    match command {
+        Command::Compile | Command::Print => SOURCE_LIMIT,
+        Command::List => IMAGE_LIMIT,
+    }
 }

@@ -4,15 +4,15 @@
 
 mod command;
 mod delivery;
-mod laws;
 mod lines;
 mod making;
 mod refusal_lines;
 #[cfg(test)]
 mod tests;
 mod top;
+mod trouble;
 
 pub use command::Command;
-pub use laws::no_text_for_what_is_refused;
 pub use lines::usage_line;
 pub use top::tool;
+pub use trouble::Reason;

@@ -1,76 +1,81 @@
 // Making texts: from the bytes of the input to the whole text of the answer.
 
-ghost use Rattle.std.specs.Prelude.{◌≡◌, ◌≤◌, ℕ, List, IfOk, Err, IsErrOf};
+ghost use Rattle.std.specs.Prelude.{◌≡◌, ◌≤◌, ℕ, List, length, IfOk, IfErr, Err, IsErrOf};
 ghost use Rattle.br_base.specs.Ends.{Rose};
-ghost use Rattle.br_compile.specs.declared.refusal.Refusal.{Refusal};
-ghost use Rattle.br_top.specs.Commands.{Adds};
-ghost use Rattle.br_top.specs.Answers.{ReadsAll, ReadsRefused};
+ghost use Rattle.br_top.specs.declared.trouble.Reason.{Reason};
+ghost use Rattle.br_top.specs.Commands.{Adds, Refuses, limit_of};
+ghost use Rattle.br_top.specs.Answers.{ReadsAll, ReadsRefused, IsUnrefused};
+ghost use Rattle.br_top.specs.Troubles.{IsRefusedFor};
 
-use crate::command::Command;
-use br_base::{NoMemory, OrMemory, ReadEnd, Source, read_all};
-use br_compile::{Refusal, compile};
-use br_image::print;
+use crate::command::{Command, limit_of};
+use crate::trouble::Trouble;
+use br_base::{Source, read_all};
+use br_compile::compile;
+use br_sexpr::one_answer;
+use br_syntax::from_tree;
 use std::alloc::Global;
 
-/// How many bytes a source text has at most.
-const SOURCE_LIMIT: usize = 1_048_576;
-
-/// Why there is no text.
-#[derive(Debug, Drop)]
-pub(crate) enum Trouble {
-    /// There was no memory.
-    Memory,
-    /// The input failed.
-    ReadFault,
-    /// What was read is refused.
-    Refused(Refusal),
-}
-
-impl From<NoMemory> for Trouble {
-    ghost use Rattle.br_top.specs.declared.making.Trouble.TheVariants.{Memory};
-
-    ghost from_gives = { λ _ trouble. trouble ≡ Memory };
-
-    fn from(_cause: NoMemory) -> Trouble {
-        Trouble::Memory
-    }
-}
-
-impl From<ReadEnd> for Trouble {
-    ghost use Rattle.br_top.specs.Troubles.{trouble_of_end};
-
-    ghost from_gives = { λ end trouble. trouble ≡ trouble_of_end end };
-
-    fn from(end: ReadEnd) -> Trouble {
-        match end {
-            ReadEnd::Memory => Trouble::Memory,
-            ReadEnd::Failed => Trouble::ReadFault,
-            ReadEnd::TooLong => Trouble::Refused(Refusal::InputTooLong),
-        }
-    }
-}
-
-impl From<OrMemory<Refusal>> for Trouble {
-    ghost use Rattle.br_top.specs.Troubles.{trouble_of_refusal};
-
-    ghost from_gives = { λ cause trouble. trouble ≡ trouble_of_refusal cause };
-
-    fn from(cause: OrMemory<Refusal>) -> Trouble {
-        match cause {
-            OrMemory::Memory => Trouble::Memory,
-            OrMemory::Fault(refusal) => Trouble::Refused(refusal),
-        }
-    }
-}
-
-/// The text of the image of the source text on the input.
-pub(crate) fn image_text<S: Source>(alloc: Global, input: &mut S) -> Result<Vec<u8>, Trouble>
-    ensures made { IfOk result (λ text. (bytes : List ℕ) × ReadsAll Command.Compile (S.left input.old) (S.left input.new) bytes × Adds Command.Compile bytes text.items) }
-    ensures refused { (refusal : Refusal) → result ≡ Err (Trouble.Refused refusal) → ReadsRefused Command.Compile (S.left input.old) (S.left input.new) refusal }
+/// The text that a command makes of what is on the input.
+pub(crate) fn made_text<S: Source>(
+    alloc: Global,
+    command: Command,
+    input: &mut S,
+) -> Result<Vec<u8>, Trouble>
+    ensures made { IfOk result (λ text. (bytes : List ℕ) × ReadsAll command (S.left input.old) (S.left input.new) bytes
+        × IsUnrefused command bytes × Adds command bytes text.items) }
+    ensures refused { (reason : Reason) → result ≡ Err (Trouble.Refused reason) → ReadsRefused command (S.left input.old) (S.left input.new) reason }
     ensures failed { IsErrOf result Trouble.ReadFault → Rose (S.faults input.old) (S.faults input.new) }
     ensures count { S.faults input.old ≤ S.faults input.new }
 {
-    let bytes = read_all(alloc, input, SOURCE_LIMIT)?;
-    let image = compile(alloc, &bytes)?;
-    Ok(print(alloc, &image)?)
+    let bytes = read_all(alloc, input, limit_of(command))?;
+    text_of(alloc, command, &bytes)
+}
+
+/// The text that a command makes of an input of these bytes.
+fn text_of(alloc: Global, command: Command, bytes: &[u8]) -> Result<Vec<u8>, Trouble>
+    requires { length bytes.now ≤ limit_of command }
+    ensures made { IfOk result (λ text. Adds command bytes.now text.items) }
+    ensures unrefused { IfOk result (λ _. IsUnrefused command bytes.now) }
+    ensures refused { IfErr result (IsRefusedFor (Refuses command bytes.now)) }
+{
+    match command {
+        Command::Compile => image_text(alloc, bytes),
+        Command::Print => canonical_text(alloc, bytes),
+        Command::List => listing_text(alloc, bytes),
+    }
+}
+
+/// The text of the image of a source text.
+fn image_text(alloc: Global, bytes: &[u8]) -> Result<Vec<u8>, Trouble>
+    requires { length bytes.now ≤ limit_of Command.Compile }
+    ensures made { IfOk result (λ text. Adds Command.Compile bytes.now text.items) }
+    ensures unrefused { IfOk result (λ _. IsUnrefused Command.Compile bytes.now) }
+    ensures refused { IfErr result (IsRefusedFor (Refuses Command.Compile bytes.now)) }
+{
+    let image = compile(alloc, bytes)?;
+    Ok(br_image::print(alloc, &image)?)
+}
+
+/// The canonical text of the trees of a source text.
+fn canonical_text(alloc: Global, bytes: &[u8]) -> Result<Vec<u8>, Trouble>
+    requires { length bytes.now ≤ limit_of Command.Print }
+    ensures made { IfOk result (λ text. Adds Command.Print bytes.now text.items) }
+    ensures unrefused { IfOk result (λ _. IsUnrefused Command.Print bytes.now) }
+    ensures refused { IfErr result (IsRefusedFor (Refuses Command.Print bytes.now)) }
+{
+    one_answer();
+    let trees = br_sexpr::read(alloc, bytes)?;
+    let _program = from_tree(alloc, trees.as_slice())?;
+    Ok(br_sexpr::print(alloc, trees.as_slice())?)
+}
+
+/// The listing of the image that a text is the text of.
+fn listing_text(alloc: Global, bytes: &[u8]) -> Result<Vec<u8>, Trouble>
+    requires { length bytes.now ≤ limit_of Command.List }
+    ensures made { IfOk result (λ text. Adds Command.List bytes.now text.items) }
+    ensures unrefused { IfOk result (λ _. IsUnrefused Command.List bytes.now) }
+    ensures refused { IfErr result (IsRefusedFor (Refuses Command.List bytes.now)) }
+{
+    let image = br_image::read(alloc, bytes)?;
+    Ok(br_listing::list(alloc, &image)?)
 }

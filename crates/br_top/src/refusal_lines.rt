@@ -2,17 +2,29 @@
 
 ghost use Rattle.std.specs.Prelude.{◌≡◌, ◌++◌, ◌∷◌, IfOk, OnOk};
 ghost use Rattle.std.specs.Fmt.{decimal};
-ghost use Rattle.br_top.specs.Refusals.{number_fields, refused_line, text_fault_line, shape_fault_line, name_fault_line, refusal_line};
+ghost use Rattle.br_top.specs.Refusals.{number_fields, refused_line, text_fault_line, shape_fault_line, name_fault_line, refusal_line, image_fault_line, reason_line};
 
+use crate::trouble::Reason;
 use br_base::NoMemory;
 use br_compile::Refusal;
+use br_image::ImageFault;
 use br_measure::NameFault;
 use br_sexpr::TextFault;
 use br_syntax::ShapeFault;
 use std::alloc::Global;
 
 /// The line for a refusal: `brc: refused`, the name of its kind and its numbers.
-pub(crate) fn refusal_line(alloc: Global, refusal: &Refusal) -> Result<Vec<u8>, NoMemory>
+pub(crate) fn reason_line(alloc: Global, reason: &Reason) -> Result<Vec<u8>, NoMemory>
+    ensures { IfOk result (λ line. line.items ≡ reason_line reason.now) }
+{
+    match reason {
+        Reason::TooLong => refused_line(alloc, "InputTooLong", &[]),
+        Reason::Source(refusal) => refusal_line(alloc, refusal),
+        Reason::Image(fault) => image_fault_line(alloc, *fault),
+    }
+}
+
+fn refusal_line(alloc: Global, refusal: &Refusal) -> Result<Vec<u8>, NoMemory>
     ensures { IfOk result (λ line. line.items ≡ refusal_line refusal.now) }
 {
     match refusal {
@@ -62,6 +74,17 @@ fn name_fault_line(alloc: Global, fault: NameFault) -> Result<Vec<u8>, NoMemory>
         NameFault::StackTooDeep(function, measure) => {
             refused_line(alloc, "StackTooDeep", &[function, measure])
         }
+    }
+}
+
+fn image_fault_line(alloc: Global, fault: ImageFault) -> Result<Vec<u8>, NoMemory>
+    ensures { IfOk result (λ line. line.items ≡ image_fault_line fault) }
+{
+    match fault {
+        ImageFault::BadLine(line) => refused_line(alloc, "BadLine", &[line]),
+        ImageFault::BadOrder(line) => refused_line(alloc, "BadOrder", &[line]),
+        ImageFault::BadOffset(line) => refused_line(alloc, "BadOffset", &[line]),
+        ImageFault::Truncated(line) => refused_line(alloc, "Truncated", &[line]),
     }
 }
 

@@ -38,14 +38,15 @@ fn numbers(alloc: Global, number: Option<u64>) -> Result<Vec<u64>, AllocError> {
     Ok(numbers)
 }
 
-/// What `compile` answers for a text, and what the output and standard error hold then.
-fn compile(
+/// What a command answers for an input, and what the output and standard error hold then.
+fn answer(
     alloc: Global,
-    text: &[u8],
+    word: &str,
+    bytes: &[u8],
     failing: Failing,
 ) -> Result<(Status, MemSink, MemSink), Fail> {
-    let words = [String::from_str(alloc, "compile")?];
-    let bytes = text.to_vec(alloc)?;
+    let words = [String::from_str(alloc, word)?];
+    let bytes = bytes.to_vec(alloc)?;
     let mut input = MemSource::new(bytes, MOST, numbers(alloc, failing.input)?);
     let mut out = MemSink::new(alloc, ROOM, MOST, numbers(alloc, failing.out)?)?;
     let mut err = MemSink::new(alloc, ROOM, MOST, numbers(alloc, failing.err)?)?;
@@ -55,26 +56,120 @@ fn compile(
 
 #[test]
 fn refusals(rt: HostRuntime) -> Result<(), Fail> {
-    let cases: [(&[u8], &[u8]); 7] = [
-        (b"(fn main () ()", b"brc: refused Unclosed 0\n"),
+    let cases: [(&str, &[u8], &[u8]); 15] = [
+        ("compile", b"(fn main () ()", b"brc: refused Unclosed 0\n"),
         (
+            "compile",
             b"(fn main () (r) (set r 4294967296))",
             b"brc: refused BadNumber 23\n",
         ),
-        (b"# ", b"brc: refused BadByte 0\n"),
-        (b"())", b"brc: refused ExtraClose 2\n"),
+        ("compile", b"# ", b"brc: refused BadByte 0\n"),
+        ("compile", b"())", b"brc: refused ExtraClose 2\n"),
         (
+            "compile",
             b"(fn main (a b c d e f g h i) ())",
             b"brc: refused TooMany 26\n",
         ),
-        (b"(fn main () () (skip))", b"brc: refused NotYet 15\n"),
-        (b"()", b"brc: refused BadForm 0\n"),
+        (
+            "compile",
+            b"(fn main () () (skip))",
+            b"brc: refused NotYet 15\n",
+        ),
+        ("compile", b"()", b"brc: refused BadForm 0\n"),
+        (
+            "compile",
+            b"(fn f () () (call () g)) (fn g () () (call () f))",
+            b"brc: refused Recursion 0\n",
+        ),
+        (
+            "compile",
+            b"(fn f (a) ())(fn main () () (call () f))",
+            b"brc: refused WrongArguments 37\n",
+        ),
+        (
+            "compile",
+            b"(fn a () () (call () c)) (fn b () () (call () c)) (fn c () ())",
+            b"brc: refused NotYet 12\n",
+        ),
+        ("print", b"(fn main () ()", b"brc: refused Unclosed 0\n"),
+        (
+            "print",
+            b"(fn main (a b c d e f g h i) ())",
+            b"brc: refused TooMany 26\n",
+        ),
+        (
+            "list",
+            b"brimage 1\nentry main 0 0 0 0\ncode 2\n00000297\n",
+            b"brc: refused Truncated 5\n",
+        ),
+        (
+            "list",
+            b"brimage 1\nentry main 0 0 0 0\ncode 2\n00000297\nend\n",
+            b"brc: refused BadOrder 5\n",
+        ),
+        (
+            "list",
+            b"brimage 1\nentry main 0 0 4 0\ncode 1\n00000073\nend\n",
+            b"brc: refused BadOffset 2\n",
+        ),
     ];
-    for (text, line) in cases {
-        let (status, out, err) = compile(rt.alloc(), text, NEVER)?;
+    for (word, bytes, line) in cases {
+        let (status, out, err) = answer(rt.alloc(), word, bytes, NEVER)?;
         assert_eq!(rt; status, Status::Refused);
         assert_eq!(rt; out.held(), b"".as_slice());
         assert_eq!(rt; err.held(), line);
+    }
+    Ok(())
+}
+
+/// The image of two words, the second of which writes over the first.
+const WRITES_ITS_CODE: &[u8] = b"brimage 1\nentry main 0 0 0 0\ncode 2\n00000297\n0052a023\nend\n";
+
+#[test]
+fn texts(rt: HostRuntime) -> Result<(), Fail> {
+    let cases: [(&str, &[u8], &[u8]); 3] = [
+        (
+            "print",
+            b"(fn  f (x)(y) ; note\n (set y 0x10))",
+            b"(fn f (x) (y) (set y 16))\n",
+        ),
+        (
+            "print",
+            b"(fn f () () (call () f)) (fn f () () (call (a) g 1))",
+            b"(fn f () () (call () f))\n(fn f () () (call (a) g 1))\n",
+        ),
+        (
+            "list",
+            WRITES_ITS_CODE,
+            b"main:\n80000000 00000297 auipc x5, 0x00000\n80000004 0052a023 sw x5, 0(x5)\n",
+        ),
+    ];
+    for (word, bytes, text) in cases {
+        let (status, out, err) = answer(rt.alloc(), word, bytes, NEVER)?;
+        assert_eq!(rt; status, Status::Done);
+        assert_eq!(rt; out.held(), text);
+        assert_eq!(rt; err.held(), b"".as_slice());
+    }
+    Ok(())
+}
+
+#[test]
+fn image_prefixes(rt: HostRuntime) -> Result<(), Fail> {
+    // By how many line feeds a prefix has.
+    let lines: [&[u8]; 6] = [
+        b"brc: refused Truncated 1\n",
+        b"brc: refused Truncated 2\n",
+        b"brc: refused Truncated 3\n",
+        b"brc: refused Truncated 4\n",
+        b"brc: refused Truncated 5\n",
+        b"brc: refused Truncated 6\n",
+    ];
+    for len in 0..WRITES_ITS_CODE.len() {
+        let prefix = WRITES_ITS_CODE.get(..len).ok_or("a prefix")?;
+        let feeds = prefix.iter().filter(|byte| **byte == b'\n').count();
+        let (status, _, err) = answer(rt.alloc(), "list", prefix, NEVER)?;
+        assert_eq!(rt; status, Status::Refused);
+        assert_eq!(rt; err.held(), *lines.get(feeds).ok_or("a line")?);
     }
     Ok(())
 }
@@ -110,7 +205,7 @@ fn reads_that_fail(rt: HostRuntime) -> Result<(), Fail> {
             input: Some(read),
             ..NEVER
         };
-        let (status, out, err) = compile(rt.alloc(), WRITES_A_WORD, failing)?;
+        let (status, out, err) = answer(rt.alloc(), "compile", WRITES_A_WORD, failing)?;
         assert_eq!(rt; status, Status::ReadFault);
         assert_eq!(rt; out.held(), b"".as_slice());
         assert_eq!(rt; err.held(), b"brc: read fault\n".as_slice());
@@ -120,7 +215,7 @@ fn reads_that_fail(rt: HostRuntime) -> Result<(), Fail> {
 
 #[test]
 fn writes_that_fail(rt: HostRuntime) -> Result<(), Fail> {
-    let (status, whole, _) = compile(rt.alloc(), WRITES_A_WORD, NEVER)?;
+    let (status, whole, _) = answer(rt.alloc(), "compile", WRITES_A_WORD, NEVER)?;
     assert_eq!(rt; status, Status::Done);
     let whole = whole.held();
     assert!(rt; whole.starts_with(b"brimage 1\nentry main 0 0 "));
@@ -129,7 +224,7 @@ fn writes_that_fail(rt: HostRuntime) -> Result<(), Fail> {
             out: Some(write as u64),
             ..NEVER
         };
-        let (status, out, err) = compile(rt.alloc(), WRITES_A_WORD, failing)?;
+        let (status, out, err) = answer(rt.alloc(), "compile", WRITES_A_WORD, failing)?;
         assert_eq!(rt; status, Status::WriteFault);
         assert_eq!(rt; out.held(), &whole[..write * MOST]);
         assert_eq!(rt; err.held(), b"brc: write fault\n".as_slice());
@@ -143,7 +238,7 @@ fn lines_that_fail(rt: HostRuntime) -> Result<(), Fail> {
         err: Some(1),
         ..NEVER
     };
-    let (status, out, err) = compile(rt.alloc(), b"(fn main () ()", failing)?;
+    let (status, out, err) = answer(rt.alloc(), "compile", b"(fn main () ()", failing)?;
     assert_eq!(rt; status, Status::WriteFault);
     assert_eq!(rt; out.held(), b"".as_slice());
     assert_eq!(rt; err.held(), b"brc: ref".as_slice());
@@ -152,14 +247,14 @@ fn lines_that_fail(rt: HostRuntime) -> Result<(), Fail> {
 
 #[test]
 fn empty_text(rt: HostRuntime) -> Result<(), Fail> {
-    let (status, out, _) = compile(rt.alloc(), b"", NEVER)?;
+    let (status, out, _) = answer(rt.alloc(), "compile", b"", NEVER)?;
     assert_eq!(rt; status, Status::Done);
     assert_eq!(rt; out.held(), b"brimage 1\ncode 0\nend\n".as_slice());
     let failing = Failing {
         out: Some(1),
         ..NEVER
     };
-    let (status, out, err) = compile(rt.alloc(), b"", failing)?;
+    let (status, out, err) = answer(rt.alloc(), "compile", b"", failing)?;
     assert_eq!(rt; status, Status::WriteFault);
     assert_eq!(rt; out.held(), b"brimage ".as_slice());
     assert_eq!(rt; err.held(), b"brc: write fault\n".as_slice());
@@ -170,7 +265,7 @@ fn empty_text(rt: HostRuntime) -> Result<(), Fail> {
 fn prefixes(rt: HostRuntime) -> Result<(), Fail> {
     for len in 1..WRITES_A_WORD.len() {
         let text = WRITES_A_WORD.get(..len).ok_or("a prefix")?;
-        let (status, _, err) = compile(rt.alloc(), text, NEVER)?;
+        let (status, _, err) = answer(rt.alloc(), "compile", text, NEVER)?;
         let line: &[u8] = if len == 40 {
             b"brc: refused BadNumber 38\n"
         } else {
@@ -182,16 +277,44 @@ fn prefixes(rt: HostRuntime) -> Result<(), Fail> {
     Ok(())
 }
 
-#[test]
-fn large_text(rt: HostRuntime) -> Result<(), Fail> {
-    let mut text = b"(fn f () () ".to_vec(rt.alloc())?;
-    for _ in 0..8_185 {
-        text.extend_from_slice(b"(skip)")?;
+/// A text of these parts, the second so many times and the third so many times.
+fn repeated(
+    alloc: Global,
+    first: &[u8],
+    (second, times): (&[u8], usize),
+    closing: usize,
+) -> Result<Vec<u8>, AllocError> {
+    let mut text = first.to_vec(alloc)?;
+    for _ in 0..times {
+        text.extend_from_slice(second)?;
     }
-    text.push(b')')?;
-    let (status, _, err) = compile(rt.alloc(), &text, NEVER)?;
-    assert_eq!(rt; status, Status::Refused);
-    assert_eq!(rt; err.held(), b"brc: refused TooLarge 8193\n".as_slice());
+    for _ in 0..closing {
+        text.push(b')')?;
+    }
+    Ok(text)
+}
+
+#[test]
+fn repeated_forms(rt: HostRuntime) -> Result<(), Fail> {
+    let head = b"(fn f () () ".as_slice();
+    let cases: [(&[u8], &[u8], usize, usize, &[u8]); 4] = [
+        (head, b"(skip)", 8_185, 1, b"brc: refused TooLarge 8193\n"),
+        (
+            head,
+            b"(stackalloc p 65536 ",
+            16,
+            17,
+            b"brc: refused StackTooDeep 0 1048928\n",
+        ),
+        (b"", b"(", 256, 256, b"brc: refused BadForm 0\n"),
+        (b"", b"(", 257, 257, b"brc: refused TooDeep 256\n"),
+    ];
+    for (first, second, times, closing, line) in cases {
+        let text = repeated(rt.alloc(), first, (second, times), closing)?;
+        let (status, _, err) = answer(rt.alloc(), "compile", &text, NEVER)?;
+        assert_eq!(rt; status, Status::Refused);
+        assert_eq!(rt; err.held(), line);
+    }
     Ok(())
 }
 

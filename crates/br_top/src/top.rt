@@ -4,19 +4,20 @@ ghost use Rattle.std.specs.Prelude.{◌≡◌, ◌≤◌, ℕ, List, Some, ◌�
 ghost use Rattle.std.specs.Io.KnownBytes.{Appends};
 ghost use Rattle.br_base.specs.Ends.{Rose, AppendsSome};
 ghost use Rattle.br_top.specs.declared.command.Command.{Command};
-ghost use Rattle.br_top.specs.Commands.{AreWords, AreWordsOf};
+ghost use Rattle.br_top.specs.declared.trouble.Reason.{Reason};
+ghost use Rattle.br_top.specs.Commands.{AreWords, AreWordsOf, Refuses};
 ghost use Rattle.br_top.specs.Lines.{usage_line, read_fault_line, write_fault_line, no_memory_line};
-ghost use Rattle.br_top.specs.Refusals.{refusal_line};
-ghost use Rattle.br_top.specs.Answers.{IsDueText, IsDueLine, HasNoText, IsUnrefused};
+ghost use Rattle.br_top.specs.Refusals.{reason_line};
+ghost use Rattle.br_top.specs.Answers.{IsDueText, IsDueLine, IsUnrefused};
 ghost use Rattle.br_top.specs.Reports.{Tells};
 
-use crate::command::{Command, command_of};
+use crate::command::command_of;
 use crate::delivery::{answer_line, answer_text, tell};
 use crate::lines::{no_memory_line, read_fault_line, usage_line};
-use crate::making::{Trouble, image_text};
-use crate::refusal_lines::refusal_line;
+use crate::making::made_text;
+use crate::refusal_lines::reason_line;
+use crate::trouble::{Reason, Trouble};
 use br_base::{NoMemory, Sink, Source, Status};
-use br_compile::Refusal;
 use std::alloc::Global;
 
 /// Does what the words ask for, which leave out the program's own name.
@@ -80,8 +81,8 @@ pub fn tool<S: Source, O: Sink, E: Sink>(
     // Each answer comes wherever its cause is there and no end fails, but for want of memory.
     ensures other_words { ¬ AreWords words.now →
         (result ≡ Status.Usage) ⊎ ((result ≡ Status.WriteFault) × Rose (E.faults err.old) (E.faults err.new)) }
-    ensures refusable { (command : Command) (bytes : List ℕ) →
-        AreWordsOf words.now command → S.left input.old ≡ Some bytes → HasNoText command bytes →
+    ensures refusable { (command : Command) (bytes : List ℕ) (reason : Reason) →
+        AreWordsOf words.now command → S.left input.old ≡ Some bytes → Refuses command bytes reason →
         (result ≡ Status.Refused) ⊎ (result ≡ Status.NoMemory)
         ⊎ ((result ≡ Status.ReadFault) × Rose (S.faults input.old) (S.faults input.new))
         ⊎ ((result ≡ Status.WriteFault) × Rose (E.faults err.old) (E.faults err.new)) }
@@ -98,9 +99,9 @@ pub fn tool<S: Source, O: Sink, E: Sink>(
 {
     match command_of(words) {
         None => answer_line(err, usage_line(), Status::Usage),
-        Some(Command::Compile) => match image_text(alloc, input) {
+        Some(command) => match made_text(alloc, command, input) {
             Ok(text) => answer_text(out, err, &text),
-            Err(Trouble::Refused(refusal)) => answer_refusal(alloc, err, &refusal),
+            Err(Trouble::Refused(reason)) => answer_refusal(alloc, err, &reason),
             Err(Trouble::ReadFault) => {
                 tell(err, read_fault_line());
                 Status::ReadFault
@@ -114,15 +115,15 @@ pub fn tool<S: Source, O: Sink, E: Sink>(
 }
 
 /// Writes the line of a refusal.
-fn answer_refusal<E: Sink>(alloc: Global, err: &mut E, refusal: &Refusal) -> Status
-    ensures answered { ((result ≡ Status.Refused) × Appends (E.held err.old) (E.held err.new) (refusal_line refusal.now))
+fn answer_refusal<E: Sink>(alloc: Global, err: &mut E, reason: &Reason) -> Status
+    ensures answered { ((result ≡ Status.Refused) × Appends (E.held err.old) (E.held err.new) (reason_line reason.now))
         ⊎ ((result ≡ Status.WriteFault) × Rose (E.faults err.old) (E.faults err.new)
-        × AppendsSome (E.held err.old) (E.held err.new) (refusal_line refusal.now))
+        × AppendsSome (E.held err.old) (E.held err.new) (reason_line reason.now))
         ⊎ ((result ≡ Status.NoMemory)
         × Tells (E.faults err.old) (E.faults err.new) (E.held err.old) (E.held err.new) no_memory_line) }
     ensures count { E.faults err.old ≤ E.faults err.new }
 {
-    match refusal_line(alloc, refusal) {
+    match reason_line(alloc, reason) {
         Ok(line) => answer_line(err, &line, Status::Refused),
         Err(NoMemory) => {
             tell(err, no_memory_line());
