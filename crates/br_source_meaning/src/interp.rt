@@ -13,7 +13,7 @@ use sqlite_items::Items;
 use std::alloc::Global;
 
 // How deep commands and calls may stand in one another before a run answers that there is no memory.
-const ROOM: u32 = 4096;
+const ROOM: u32 = 1024;
 
 /// A call of a function that is to be run: the program and its function, the words of the
 /// arguments, the memory, what device words will be read as in turn, and the buffers that will be
@@ -70,7 +70,7 @@ impl<'a> Interp<'a> {
     }
 
     /// Runs the call from outside, with this fuel: how many turns of loops and calls may begin. The
-    /// run is the one that the language defines. Commands and calls that stand more than 4,096 deep
+    /// run is the one that the language defines. Commands and calls that stand more than 1,024 deep
     /// in one another are answered by `NoMemory`, as any want of memory is.
     pub fn run(self, fuel: u32) -> Result<Finished, NoMemory>
         ensures { IfOk result (λ done. called_of done ≡ call self.entry.program.now.funcs self.entry.func.now self.entry.args.now self.entry.memory self.entry.answers.now self.entry.choices.now fuel) }
