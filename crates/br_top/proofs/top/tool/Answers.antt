@@ -1,8 +1,7 @@
 use Rattle.std.proofs.Common.{ℕ, List, ◌≡◌, subst, sym, inl, inr, refl, Err}
 use Rattle.br_top.specs.declared.command.Command.{Command}
-use Rattle.br_top.specs.declared.trouble.Reason.{Reason}
 use Rattle.br_top.specs.declared.trouble.Trouble.TheVariants.{Refused}
-use Rattle.br_top.specs.Commands.{Adds, Refuses, AreWordsOf}
+use Rattle.br_top.specs.Commands.{Adds, Refuses}
 use Rattle.br_top.specs.Answers.{IsUnrefused}
 use Rattle.br_top.specs.Refusals.{reason_line}
 use Rattle.br_top.proofs.Words.{one_command}
