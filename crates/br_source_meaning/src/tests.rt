@@ -98,6 +98,10 @@ fn expressions_and_memory(rt: HostRuntime) -> Result<(), Fail> {
         args: &[3],
         ..NOTHING
     };
+    let eight_words = Given {
+        args: &[1, 2, 3, 4, 5, 6, 7, 8],
+        ..NOTHING
+    };
     let rows = [
         (
             "(fn main () (a b c) (set a (divu 7 0)) (set b (remu 7 0)) (set c (srs 0x80000000 33)))",
@@ -118,6 +122,11 @@ fn expressions_and_memory(rt: HostRuntime) -> Result<(), Fail> {
             "(fn main (i) (r) (set r (table2 (1 2 3 4) i)))",
             at_three,
             "undefined",
+        ),
+        (
+            "(fn main (a b c d e f g h) (h g f e d c b a))",
+            eight_words,
+            "done 00000008 00000007 00000006 00000005 00000004 00000003 00000002 00000001",
         ),
     ];
     for (text, given, expected) in rows {
@@ -172,6 +181,11 @@ fn devices_and_buffers(rt: HostRuntime) -> Result<(), Fail> {
         ),
         (buffer, NOTHING, "nochoice"),
         (buffer, chosen, "write 1001200c 11223344, done"),
+        (
+            "(fn main () (r) (set v0 0) (set v1 1) (set v2 2) (stackalloc p 16 (store4 (add p 12) 7) (set r (load4 (add p 12)))) (set r (add r v0)) (set r (add r v1)) (set r (add r v2)))",
+            chosen,
+            "done 0000000a",
+        ),
     ];
     for (text, given, expected) in rows {
         let done = run(rt.alloc(), text, &given)?;
