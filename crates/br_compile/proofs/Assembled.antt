@@ -1,16 +1,15 @@
 -- An image of one function is in the limits of images.
-use Rattle.std.proofs.Common.{◌≡◌, ◌≢◌, ℕ, zero, suc, ◌+◌, ◌*◌, ◌%◌, ◌^◌, ◌<◌, ◌≤◌, List, [], ◌∷◌, ◌++◌, length, map, Option, Some, None, refl, sym, ap, subst, ◌∙◌, arith}
+use Rattle.std.proofs.Common.{◌≡◌, ◌≢◌, ℕ, zero, suc, ◌+◌, ◌%◌, ◌^◌, ◌<◌, ◌≤◌, List, [], ◌∷◌, ◌++◌, length, Option, Some, None, refl, sym, ap, subst, ◌∙◌, arith}
 use Rattle.std.specs.Prelude.{All, AllPairs, Vec}
 use Rattle.std.specs.declared.alloc.Global.{Global}
 use Rattle.br_compile.specs.Puts.{IsWholeCode}
 use Rattle.br_base.specs.Name.{IsName}
 use Rattle.br_syntax.specs.declared.program.Func.{Func}
-use Rattle.br_measure.specs.Bulk.{function_bulk, commands_bulk}
+use Rattle.br_measure.specs.Bulk.{function_bulk}
 use Rattle.br_image.specs.declared.images.Entry.{Entry}
 use Rattle.br_image.specs.Limits.{EntryInLimits, InLimits}
 use Rattle.br_rv32im.specs.declared.instruction.Ins.{Ins}
-use Rattle.br_rv32im.specs.Encoding.{word_of}
-use Rattle.br_compile.specs.SumCode.{commands_code, entry_code}
+use Rattle.br_compile.specs.SumCode.{commands_code}
 use Rattle.br_compile.proofs.Pieces.{Table}
 use Rattle.br_compile.proofs.Writing.{commands_short}
 use Rattle.br_compile.proofs.Whole.{words_of, length-words_of, IsEntryOf}

@@ -1,13 +1,13 @@
 -- A program none of whose forms is unbuilt has code.
-use Rattle.std.proofs.Common.{◌≡◌, ◌≢◌, ℕ, ◌+◌, ◌^◌, ◌<◌, List, [], ◌∷◌, ◌++◌, Result, Ok, Err, Option, Some, None, Bool, true, false, cond, map, length, refl, sym, ap, subst, ◌∙◌, arith}
-use Rattle.std.specs.Prelude.{nat_lt, ◌==◌, if◌then◌else◌, ◌&&◌, codes}
+use Rattle.std.proofs.Common.{◌≡◌, ℕ, ◌+◌, ◌^◌, List, [], ◌∷◌, Ok, Err, Option, Some, None, Bool, true, false, map, refl, sym, ap, subst, ◌∙◌}
+use Rattle.std.specs.Prelude.{nat_lt, ◌==◌, if◌then◌else◌, codes}
 use Rattle.std.specs.Option.{option_or}
 use Rattle.std.specs.Str.{bytes_eq}
 use Rattle.std.proofs.lemmas.Slice.Eq.{bytes_eq-Decides}
 use Rattle.br_words.specs.declared.operation.BinOp.TheVariants as op
-use Rattle.br_sexpr.specs.declared.tree.Tree.{Tree, out-Tree, roll-Tree, roll-out-Tree}
+use Rattle.br_sexpr.specs.declared.tree.Tree.{Tree, roll-Tree}
 use Rattle.br_sexpr.specs.declared.tree.Tree.TheOpen.{Tree-F}
-use Rattle.br_sexpr.specs.declared.tree.Tree.TheFolds.{map-Tree, para-Tree, para-roll-Tree, ind-Tree}
+use Rattle.br_sexpr.specs.declared.tree.Tree.TheFolds.{map-Tree, para-roll-Tree, ind-Tree}
 use Rattle.br_syntax.specs.declared.program.Expr.{Expr}
 use Rattle.br_syntax.specs.declared.program.Expr.TheVariants as expr
 use Rattle.br_syntax.specs.declared.program.Expr.TheOpen.{Expr-F}
@@ -19,7 +19,7 @@ use Rattle.br_syntax.specs.Denotes.{word_of, offset_of, argument_at, arguments_f
 use Rattle.br_rv32im.specs.declared.instruction.Ins.{Ins}
 use Rattle.br_rv32im.specs.declared.instruction.Ins.TheVariants.{Reg}
 use Rattle.br_rv32im.specs.declared.instruction.RegOp.TheVariants.{Add}
-use Rattle.br_compile.specs.SumCode.{expression_code, expression_step, constant_code, both_code, operation_code}
+use Rattle.br_compile.specs.SumCode.{expression_code, expression_step, constant_code, both_code}
 use Rattle.br_compile.specs.Unbuilt.{first_among, expression_unbuilt, expression_unbuilt_in, expression_list_unbuilt}
 use Rattle.br_compile.proofs.Putting.{code_of_operation}
 

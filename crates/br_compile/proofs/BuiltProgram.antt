@@ -1,23 +1,22 @@
 -- A program none of whose forms is unbuilt has code: its commands, its function and all of it.
-use Rattle.std.proofs.Common.{◌≡◌, ℕ, zero, suc, ◌+◌, List, [], ◌∷◌, ◌++◌, Result, Ok, Err, Option, Some, None, Bool, true, false, map, length, refl, sym, ap, subst, ◌∙◌, arith}
-use Rattle.std.specs.Prelude.{pos, is_some, ◌==◌, if◌then◌else◌, ◌&&◌, codes}
-use Rattle.std.specs.Option.{option_or}
+use Rattle.std.proofs.Common.{◌≡◌, ℕ, List, [], ◌∷◌, ◌++◌, Ok, Err, Some, None, Bool, true, false, map, length, refl, sym, ap, subst, ◌∙◌, arith}
+use Rattle.std.specs.Prelude.{pos, ◌==◌, if◌then◌else◌, ◌&&◌, codes}
 use Rattle.std.specs.Str.{bytes_eq}
 use Rattle.std.proofs.lemmas.Bool.{eqb-true}
 use Rattle.std.proofs.lemmas.Slice.Eq.{bytes_eq-Decides}
-use Rattle.br_sexpr.specs.declared.tree.Tree.{Tree, out-Tree, roll-Tree, roll-out-Tree}
+use Rattle.br_sexpr.specs.declared.tree.Tree.{Tree, out-Tree, roll-out-Tree}
 use Rattle.br_sexpr.specs.declared.tree.Tree.TheOpen.{Tree-F}
-use Rattle.br_sexpr.specs.declared.tree.Tree.TheFolds.{map-Tree, para-Tree, para-roll-Tree}
+use Rattle.br_sexpr.specs.declared.tree.Tree.TheFolds.{map-Tree, para-roll-Tree}
 use Rattle.br_syntax.specs.declared.program.Expr.{Expr}
-use Rattle.br_syntax.specs.declared.program.Cmd.{Cmd, out-Cmd, map-Cmd}
+use Rattle.br_syntax.specs.declared.program.Cmd.{Cmd, map-Cmd}
 use Rattle.br_syntax.specs.declared.program.Cmd.TheVariants as cmd
 use Rattle.br_syntax.specs.declared.program.Cmd.TheOpen.{Cmd-F}
 use Rattle.br_syntax.specs.declared.program.Cmd.TheFolds.{fold_out-Cmd}
 use Rattle.br_syntax.specs.declared.program.Func.{Func}
 use Rattle.br_syntax.specs.Word.{cmd_word}
 use Rattle.br_syntax.specs.declared.fault.ShapeFault.TheVariants.{BadForm}
-use Rattle.br_syntax.specs.Shaped.{Shaped, both, all, ◌<$>◌}
-use Rattle.br_syntax.specs.Denotes.{word_of, word_in, offset_of, name, name_in, names, names_in, arguments_from, target_of, interact_of, form_of, command_of, Places, WithPlaces, places, places_in, with_places, command, commands, body_of, function_of, function_list, function_in, function, functions}
+use Rattle.br_syntax.specs.Shaped.{both}
+use Rattle.br_syntax.specs.Denotes.{word_of, word_in, offset_of, name, name_in, names, names_in, arguments_from, target_of, interact_of, form_of, command_of, Places, WithPlaces, places, places_in, with_places, command, commands, function_of, function_list, function_in, function, functions}
 use Rattle.br_syntax.specs.NameFaults as names
 use Rattle.br_syntax.specs.NameFaults.{NameFault, DuplicateFunction, UnknownFunction, WrongArguments, WrongResults, UnknownAction, HasNoNameFault}
 use Rattle.br_rv32im.specs.declared.instruction.Ins.{Ins}
@@ -25,7 +24,7 @@ use Rattle.br_rv32im.specs.declared.instruction.Ins.TheVariants.{Store}
 use Rattle.br_rv32im.specs.declared.instruction.StoreOp.TheVariants.{Sw}
 use Rattle.br_compile.specs.SumCode.{expression_code, both_code, write_code, command_layer_code, command_code, in_turn_code, commands_code, function_code, shape_code, program_code}
 use Rattle.br_compile.specs.Unbuilt.{first_among, expression_unbuilt, command_unbuilt, command_unbuilt_in, command_list_unbuilt, is_empty_list, is_empty_list_in, function_unbuilt, function_unbuilt_in, function_list_unbuilt, program_unbuilt}
-use Rattle.br_compile.proofs.Built.{HasCode, AllHaveCode, arguments_have_code, both_none, chosen_none, first_none, both_parts_ok, made_ok}
+use Rattle.br_compile.proofs.Built.{AllHaveCode, arguments_have_code, both_none, chosen_none, first_none, both_parts_ok, made_ok}
 
 -- the definitions at the faults of names of the syntax
 abbrev count_faults : ℕ → ℕ → ℕ → ℕ → ℕ → List NameFault

@@ -1,5 +1,5 @@
 -- The code of sums computes them.
-use Rattle.std.proofs.Common.{◌≡◌, ◌≢◌, ◌⊎◌, inl, inr, ℕ, zero, suc, ◌+◌, ◌-◌, ◌*◌, ◌%◌, ◌^◌, ◌<◌, ◌≤◌, List, [], ◌∷◌, ◌++◌, length, map, max, Option, Some, None, Bool, true, false, cond, refl, sym, ap, subst, ◌∙◌, arith, length-append}
+use Rattle.std.proofs.Common.{◌≡◌, ℕ, suc, ◌+◌, ◌-◌, ◌*◌, ◌%◌, ◌^◌, ◌<◌, ◌≤◌, List, [], ◌∷◌, ◌++◌, length, Option, Some, None, Bool, true, false, refl, sym, ap, subst, ◌∙◌, arith, length-append}
 use Rattle.std.specs.Prelude.{nat_lt, if◌then◌else◌}
 use Rattle.std.proofs.lemmas.Bool.{ltb-true}
 use Rattle.br_words.specs.declared.operation.BinOp.{BinOp}
@@ -8,7 +8,7 @@ use Rattle.br_bytes.specs.Memory.{Memory}
 use Rattle.br_syntax.specs.declared.program.Expr.{Expr}
 use Rattle.br_syntax.specs.declared.program.Expr.TheOpen.{Expr-F}
 use Rattle.br_syntax.specs.declared.program.Expr.TheViews.{roll-Expr}
-use Rattle.br_syntax.specs.declared.program.Expr.TheFolds.{fold-Expr, fold-roll-Expr, ind-Expr}
+use Rattle.br_syntax.specs.declared.program.Expr.TheFolds.{fold-roll-Expr, ind-Expr}
 use Rattle.br_syntax.specs.declared.program.Expr.{map-Expr}
 use Rattle.br_measure.specs.Bulk.{expression_bulk}
 use Rattle.br_measure.specs.Bulk as bulk
@@ -16,14 +16,13 @@ use Rattle.br_source_meaning.specs.Values.{Locals, value, value_step, both}
 use Rattle.br_rv32im.specs.declared.instruction.Ins.{Ins}
 use Rattle.br_rv32im.specs.declared.instruction.Ins.TheVariants.{Reg}
 use Rattle.br_rv32im.specs.declared.instruction.RegOp.TheVariants.{Add}
-use Rattle.br_rv32im.specs.Encoding.{word_of}
 use Rattle.br_machine.specs.State.{MachineState, register}
 use Rattle.br_machine.specs.Effects.{computes, moved_on}
 use Rattle.br_machine.specs.Steps.{Moment, Runs}
 use Rattle.br_machine.proofs.Fetch.{within_code}
 use Rattle.br_machine.proofs.Straight.{Runs-append, register-with_register_same}
-use Rattle.br_compile.specs.SumCode.{expression_code, expression_step, both_code, operation_code, constant_code, push_code, pop_code}
-use Rattle.br_compile.proofs.Pieces.{Table, Placed, Room, Keeps, Keeps-then, Keeps-wider, Computed, constant_runs, InsAt, InsAt-front, InsAt-back, Pushed, push_runs, Popped, pop_runs, ram_word-same, add, Placed-computes, Keeps-computes}
+use Rattle.br_compile.specs.SumCode.{expression_code, expression_step, operation_code, constant_code, push_code, pop_code}
+use Rattle.br_compile.proofs.Pieces.{Table, Placed, Room, Keeps, Keeps-then, Keeps-wider, Computed, constant_runs, InsAt, InsAt-front, InsAt-back, push_runs, pop_runs, ram_word-same, add, Placed-computes, Keeps-computes}
 
 -- these instructions leave a word in x5, with at most h words of the stack
 abbrev pub Computes : List Ins → ℕ → ℕ → Type 0

@@ -14,10 +14,10 @@ use Rattle.br_machine.specs.declared.stepped.Stepped.TheVariants.{Ran, Read, Wro
 use Rattle.br_machine.specs.State.{MachineState}
 use Rattle.br_machine.specs.Step.{step}
 use Rattle.br_machine.specs.Start.{Leftover}
-use Rattle.br_machine.specs.Steps.{Moment, moment_after, next_answer, next_step, onward, after_steps, StepsTo, Runs}
-use Rattle.br_emit.specs.Reaches.{ShowsEnd, Reaches}
+use Rattle.br_machine.specs.Steps.{Moment, moment_after, next_answer, next_step, onward, after_steps, Runs}
+use Rattle.br_emit.specs.Reaches.{ShowsEnd}
 use Rattle.br_compile.specs.Implements.{Follows}
-use Rattle.br_compile.specs.FirstSteps.{DoesNotTrap, first_moment, ShowsFront, FollowsAtFirst}
+use Rattle.br_compile.specs.FirstSteps.{DoesNotTrap, ShowsFront, FollowsAtFirst}
 
 -- a step that goes on does not trap
 goes_on : (m next : Moment) (s : MachineState × Stepped) → moment_after m s ≡ Some next → DoesNotTrap s.1

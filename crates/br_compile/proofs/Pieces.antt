@@ -1,5 +1,5 @@
 -- The instructions that sums are computed with, one at a time.
-use Rattle.std.proofs.Common.{◌≡◌, ◌≢◌, ◌⊎◌, inl, inr, ℕ, zero, suc, ◌+◌, ◌-◌, ◌*◌, ◌/◌, ◌%◌, ◌^◌, ◌<◌, ◌≤◌, List, [], ◌∷◌, ◌++◌, length, map, Option, Some, None, Bool, true, false, refl, sym, ap, subst, ◌∙◌, arith}
+use Rattle.std.proofs.Common.{◌≡◌, ◌≢◌, ◌⊎◌, inl, inr, ℕ, suc, ◌+◌, ◌-◌, ◌*◌, ◌/◌, ◌%◌, ◌^◌, ◌<◌, ◌≤◌, List, ◌++◌, length, map, Some, Bool, true, false, refl, ap, subst, ◌∙◌, arith}
 use Rattle.std.proofs.lemmas.Bool.{ltb-true, ltb-false}
 use Rattle.std.proofs.lemmas.Int.{ints}
 use Rattle.std.proofs.lemmas.List.{map-append, length-map}
@@ -7,21 +7,21 @@ use Rattle.std.specs.Prelude.{slice_get, slice_index, ℤ, pos, negsuc, nat_lt, 
 use Rattle.br_words.specs.Words.{wrapped}
 use Rattle.br_bytes.specs.Number.{number_of, low_bytes}
 use Rattle.br_rv32im.specs.declared.instruction.Ins.{Ins}
-use Rattle.br_rv32im.specs.declared.instruction.Ins.TheVariants.{Upper, Load, Store, Imm, Reg, Ecall}
+use Rattle.br_rv32im.specs.declared.instruction.Ins.TheVariants.{Upper, Load, Store, Imm, Reg}
 use Rattle.br_rv32im.specs.declared.instruction.UpperOp.TheVariants.{Lui}
 use Rattle.br_rv32im.specs.declared.instruction.ImmOp.TheVariants.{Addi}
 use Rattle.br_rv32im.specs.declared.instruction.LoadOp.TheVariants.{Lw}
 use Rattle.br_rv32im.specs.declared.instruction.StoreOp.TheVariants.{Sw}
 use Rattle.br_rv32im.specs.declared.instruction.RegOp.TheVariants.{Add}
-use Rattle.br_rv32im.specs.Encoding.{word_of, Fits, FitsBits, FitsSignedBits}
+use Rattle.br_rv32im.specs.Encoding.{word_of, Fits, FitsSignedBits}
 use Rattle.br_rv32im.specs.Row.{row_of}
-use Rattle.br_machine.specs.Layout.{code_base, data_base, stack_base, ram_end}
+use Rattle.br_machine.specs.Layout.{code_base, stack_base, ram_end}
 use Rattle.br_machine.specs.State.{MachineState, register, bytes_from, with_bytes_from}
 use Rattle.br_machine.specs.Effects.{computes, moved_on}
 use Rattle.br_machine.specs.Steps.{Moment, StepsTo, Runs}
 use Rattle.br_machine.proofs.Ram.{bytes_from-same, index-with_bytes_from, length-with_bytes_from, length-low_bytes, word_at-with_bytes_from}
 use Rattle.br_machine.proofs.Fetch.{HasCode, within_code}
-use Rattle.br_machine.proofs.Straight.{Runs-append, Runs_one, IsAbove-none, step_computes, step_stores_word, step_loads_word, stored, ram_word, HasAt, HasAt-front, HasAt-back, HasCode-same, HasCode-computes, ram-with_register, pc-with_register, length-with_register, register-with_register_same, register-with_register_other}
+use Rattle.br_machine.proofs.Straight.{IsAbove-none, step_computes, step_stores_word, step_loads_word, stored, ram_word, HasAt, HasAt-front, HasAt-back, HasCode-same, HasCode-computes, ram-with_register, pc-with_register, length-with_register, register-with_register_same, register-with_register_other}
 use Rattle.br_compile.specs.SumCode.{low_part, high_part, constant_code, push_code, pop_code}
 
 -- ---- what holds between instructions

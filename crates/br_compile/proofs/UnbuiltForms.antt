@@ -1,12 +1,12 @@
 -- The first unbuilt form in a tree of each form.
 use Rattle.std.proofs.Math.ListN.{drop_of_length-le}
 use Rattle.std.specs.Option.{option_or}
-use Rattle.std.proofs.Common.{◌≡◌, ℕ, suc, ◌+◌, ◌^◌, ◌<◌, ◌≤◌, ◌-◌, add-one, drop-cons, List, [], ◌∷◌, length, get_or, take, drop, Option, Some, None, map, refl, sym, ap, ◌∙◌, arith}
+use Rattle.std.proofs.Common.{◌≡◌, ℕ, ◌+◌, ◌^◌, ◌<◌, ◌≤◌, ◌-◌, add-one, drop-cons, List, [], ◌∷◌, length, get_or, take, drop, Option, Some, None, map, refl, sym, ap, ◌∙◌, arith}
 use Rattle.std.proofs.lemmas.Grind.{common_steps}
 use Rattle.std.specs.Prelude.{nat_lt, if◌then◌else◌}
-use Rattle.br_sexpr.specs.declared.tree.Tree.{Tree, out-Tree, roll-Tree, roll-out-Tree}
+use Rattle.br_sexpr.specs.declared.tree.Tree.{Tree, out-Tree, roll-out-Tree}
 use Rattle.br_sexpr.specs.declared.tree.Tree.TheVariants as tree
-use Rattle.br_sexpr.specs.declared.tree.Tree.TheFolds.{map-Tree, para-Tree, para-roll-Tree}
+use Rattle.br_sexpr.specs.declared.tree.Tree.TheFolds.{map-Tree, para-roll-Tree}
 use Rattle.br_compile.specs.Unbuilt.{first_among, with_unbuilt, expression_unbuilt, expression_unbuilt_in, expression_list_unbuilt}
 
 pub unbuilt-out : (t : Tree) → expression_unbuilt t ≡ expression_unbuilt_in (map-Tree Tree (Tree × Option ℕ) with_unbuilt (out-Tree t))

@@ -1,5 +1,5 @@
 -- A text is accepted or has a fault, and never both.
-use Rattle.std.proofs.Common.{◌≡◌, ℕ, ◌<◌, ◌≤◌, ◌⊎◌, inl, inr, Bool, true, false, ltb, List, length, Option, Some, None, Ok, Err, refl, sym, ap, subst, ◌∙◌, arith}
+use Rattle.std.proofs.Common.{◌≡◌, ℕ, ◌≤◌, ◌⊎◌, inl, inr, Bool, true, false, ltb, List, length, Some, None, Ok, Err, refl, sym, ap, subst, ◌∙◌, arith}
 use Rattle.std.proofs.lemmas.Bool.{ltb-true, ltb-false}
 use Rattle.br_sexpr.specs.declared.tree.Tree.{Tree}
 use Rattle.br_sexpr.specs.declared.tree.TextFault.{TextFault}
@@ -12,7 +12,7 @@ use Rattle.br_measure.specs.declared.fault.NameFault.{NameFault}
 use Rattle.br_measure.specs.Faults.{IsFault, IsSound}
 use Rattle.br_compile.specs.declared.refusal.Refusal.{Refusal}
 use Rattle.br_compile.specs.declared.refusal.Refusal.TheVariants as refusal
-use Rattle.br_compile.specs.Refusal.{most_bytes, StandsFor, Accepts, IsRefusal, IsFaultOf}
+use Rattle.br_compile.specs.Refusal.{most_bytes, Accepts, IsRefusal, IsFaultOf}
 use Rattle.br_compile.specs.Unbuilt.{program_unbuilt}
 
 -- what the crates below say of texts and programs

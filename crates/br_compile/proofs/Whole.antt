@@ -1,43 +1,36 @@
 -- An image of one function of writes implements its program.
-use Rattle.std.proofs.Common.{◌≡◌, ◌≢◌, ◌⊎◌, inl, inr, ℕ, zero, suc, ◌+◌, ◌-◌, ◌*◌, ◌%◌, ◌^◌, ◌<◌, ◌≤◌, List, [], ◌∷◌, ◌++◌, length, map, Option, Some, None, Bool, true, false, refl, sym, ap, subst, ◌∙◌, arith, append_assoc, length-append}
-use Rattle.std.proofs.lemmas.List.{map-append, length-map}
-use Rattle.std.proofs.lemmas.List.Sums.{sum_by-cons}
-use Rattle.std.proofs.Math.Nat.{mul-le-mul_left, mul-le-mul_right}
-use Rattle.std.specs.Prelude.{slice_get, slice_index, unwrap_or}
+use Rattle.std.proofs.Common.{◌≡◌, ◌⊎◌, inl, inr, ℕ, zero, suc, ◌+◌, ◌-◌, ◌*◌, ◌≤◌, List, [], ◌∷◌, ◌++◌, length, map, Option, Some, refl, sym, ap, subst, ◌∙◌, arith, length-append}
+use Rattle.std.proofs.lemmas.List.{length-map}
+use Rattle.std.specs.Prelude.{slice_get, unwrap_or}
 use Rattle.std.specs.FinMap as finite
 use Rattle.br_bytes.specs.declared.run.Event.{Event}
-use Rattle.br_bytes.specs.declared.run.Outcome.{Outcome}
 use Rattle.br_bytes.specs.declared.run.Outcome.TheVariants as outcome
 use Rattle.br_bytes.specs.Memory.{Memory}
-use Rattle.br_bytes.specs.Buffers.{AreWords, AreChoices}
 use Rattle.br_syntax.specs.declared.program.Func.{Func}
 use Rattle.br_measure.specs.Bulk.{commands_bulk, function_bulk, bulk}
-use Rattle.br_measure.specs.Measure.{measure}
-use Rattle.br_source_meaning.specs.Values.{Locals, no_locals}
-use Rattle.br_source_meaning.specs.Runs.{State, End, Undefined, Run, Goes, Ends, Returned, Returns, Stops, Callee, with_locals, run_all}
-use Rattle.br_source_meaning.specs.Calls.{returned, run_function, function_of, Called, seen, call}
+use Rattle.br_source_meaning.specs.Values.{no_locals}
+use Rattle.br_source_meaning.specs.Runs.{State, Undefined, Run, Goes, Ends, with_locals, run_all}
+use Rattle.br_source_meaning.specs.Calls.{returned, function_of, Called, seen, call}
 use Rattle.br_image.specs.declared.images.Entry.{Entry}
 use Rattle.br_image.specs.declared.images.Image.{Image}
 use Rattle.br_rv32im.specs.declared.instruction.Ins.{Ins}
-use Rattle.br_rv32im.specs.declared.instruction.Ins.TheVariants.{Upper, Ecall}
-use Rattle.br_rv32im.specs.declared.instruction.UpperOp.TheVariants.{Lui}
-use Rattle.br_rv32im.specs.Encoding.{word_of, Fits}
-use Rattle.br_machine.specs.declared.stepped.Stepped.{Stepped}
+use Rattle.br_rv32im.specs.declared.instruction.Ins.TheVariants.{Ecall}
+use Rattle.br_rv32im.specs.Encoding.{word_of}
 use Rattle.br_machine.specs.declared.stepped.Stepped.TheVariants.{Halted}
-use Rattle.br_machine.specs.Layout.{code_base, data_base, stack_base, ram_end}
+use Rattle.br_machine.specs.Layout.{code_base, stack_base, ram_end}
 use Rattle.br_machine.specs.State.{MachineState, register, byte_of}
 use Rattle.br_machine.specs.Step.{step}
 use Rattle.br_machine.specs.Effects.{computes}
 use Rattle.br_machine.specs.Steps.{Moment, Runs}
 use Rattle.br_machine.specs.Start.{Leftover, IsLeftover, IsInData, start}
 use Rattle.br_machine.proofs.Fetch.{step-at, within_code}
-use Rattle.br_machine.proofs.Straight.{Runs-append, HasAt, HasAt-whole}
+use Rattle.br_machine.proofs.Straight.{Runs-append, HasAt-whole}
 use Rattle.br_machine.proofs.Begins.{HasCode-start, length-start_ram, length-start_registers, byte_of-start}
-use Rattle.br_emit.specs.Reaches.{HoldsResults, ShowsEnd, ShowsMemory, Reaches}
+use Rattle.br_emit.specs.Reaches.{Reaches}
 use Rattle.br_compile.specs.Implements.{rate, Follows, Describes, AllDescribed, Implements}
 use Rattle.br_compile.specs.SumCode.{commands_code, entry_code}
 use Rattle.br_compile.proofs.Pieces.{Table, Placed, Room, Keeps, Keeps-then, Keeps-computes, Placed-moves, lui, InsAt, InsAt-front, InsAt-back}
-use Rattle.br_compile.proofs.Writing.{Made, Makes, Matches, Agrees, commands_agree, commands_short}
+use Rattle.br_compile.proofs.Writing.{Makes, Agrees, commands_agree, commands_short}
 
 -- the code of an entry, as words
 abbrev pub words_of : List Ins → List ℕ

@@ -1,10 +1,10 @@
 -- The code of writes makes the events of the source.
-use Rattle.std.proofs.Common.{◌≡◌, ◌≢◌, ◌⊎◌, inl, inr, ℕ, zero, suc, ◌+◌, ◌-◌, ◌*◌, ◌%◌, ◌^◌, ◌<◌, ◌≤◌, List, [], ◌∷◌, ◌++◌, length, map, Option, Some, None, Bool, true, false, refl, sym, ap, subst, ◌∙◌, arith, append_assoc, length-append}
+use Rattle.std.proofs.Common.{◌≡◌, ◌⊎◌, inl, inr, ℕ, suc, ◌+◌, ◌*◌, ◌%◌, ◌^◌, ◌<◌, ◌≤◌, List, [], ◌∷◌, ◌++◌, length, map, Option, Some, None, Bool, true, false, refl, sym, ap, subst, ◌∙◌, arith, append_assoc, length-append}
 use Rattle.std.proofs.lemmas.Int.{ints}
 use Rattle.std.proofs.lemmas.List.{append-nil}
 use Rattle.std.proofs.lemmas.List.Sums.{sum_by-cons}
 use Rattle.std.proofs.lemmas.Slice.Eq.{bytes_eq-Decides}
-use Rattle.std.specs.Prelude.{ℤ, pos, codes, if◌then◌else◌}
+use Rattle.std.specs.Prelude.{pos, codes, if◌then◌else◌}
 use Rattle.std.specs.Str.{bytes_eq}
 use Rattle.br_words.specs.Words.{wrapped}
 use Rattle.br_words.specs.Device.{is_device_word}
@@ -14,11 +14,11 @@ use Rattle.br_bytes.specs.Memory.{Memory}
 use Rattle.br_syntax.specs.declared.program.Expr.{Expr}
 use Rattle.br_syntax.specs.declared.program.Cmd.{Cmd, out-Cmd, map-Cmd}
 use Rattle.br_syntax.specs.declared.program.Cmd.TheOpen.{Cmd-F}
-use Rattle.br_syntax.specs.declared.program.Cmd.TheFolds.{fold-Cmd, fold_out-Cmd}
+use Rattle.br_syntax.specs.declared.program.Cmd.TheFolds.{fold_out-Cmd}
 use Rattle.br_measure.specs.Bulk.{expression_bulk, command_bulk, commands_bulk}
 use Rattle.br_measure.specs.Bulk as bulk
 use Rattle.br_source_meaning.specs.Values.{Locals, value, values}
-use Rattle.br_source_meaning.specs.Runs.{State, End, Undefined, Run, Goes, Ends, then_do, with_defined, choose, happens, interact, write_device, Callee, command_step, run, run_all}
+use Rattle.br_source_meaning.specs.Runs.{State, Undefined, Run, Goes, Ends, then_do, with_defined, choose, happens, interact, write_device, Callee, command_step, run, run_all}
 use Rattle.br_rv32im.specs.declared.instruction.Ins.{Ins}
 use Rattle.br_rv32im.specs.declared.instruction.Ins.TheVariants.{Store}
 use Rattle.br_rv32im.specs.declared.instruction.StoreOp.TheVariants.{Sw}
@@ -30,7 +30,7 @@ use Rattle.br_machine.proofs.Fetch.{within_code}
 use Rattle.br_machine.proofs.Straight.{Runs-append, step_writes_word, HasCode-same}
 use Rattle.br_compile.specs.SumCode.{expression_code, both_code, write_code, command_layer_code, command_code, in_turn_code, commands_code}
 use Rattle.br_compile.proofs.Pieces.{Table, Placed, Room, Keeps, Keeps-refl, Keeps-then, InsAt, InsAt-front, InsAt-back, next_word}
-use Rattle.br_compile.proofs.Computing.{parts_code, length-parts_code, both_run, BothComputed, last_at, smaller, IsComputed, expression_computed}
+use Rattle.br_compile.proofs.Computing.{parts_code, length-parts_code, both_run, last_at, smaller, IsComputed, expression_computed}
 
 -- so many steps make these events, and leave the stack pointer and the bytes outside the stack's free part as they were
 pub record Made (code : List ℕ) (low j sp n : ℕ) (es : List Event) (m : Moment) : Type 0 where

@@ -1,6 +1,6 @@
 -- What it means that an image implements a program (Integration Verification across Software and
 -- Hardware for a Simple Embedded System, PLDI 2021: the compiler's theorem and the machine's).
-use Rattle.std.specs.Prelude.{◌≡◌, ◌⊎◌, ℕ, ◌+◌, ◌*◌, ◌^◌, ◌<◌, ◌≤◌, List, [], ◌∷◌, length, map, Some, slice_get}
+use Rattle.std.specs.Prelude.{◌≡◌, ◌⊎◌, ℕ, ◌+◌, ◌*◌, ◌≤◌, List, [], ◌∷◌, length, Some, slice_get}
 use Rattle.br_bytes.specs.declared.run.Choice.{Choice}
 use Rattle.br_bytes.specs.declared.run.Outcome.TheVariants.{Undefined}
 use Rattle.br_bytes.specs.Memory.{Memory}

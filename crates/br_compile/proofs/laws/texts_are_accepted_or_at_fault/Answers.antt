@@ -1,4 +1,4 @@
-use Rattle.br_compile.proofs.Unrefused.{Laws, Answers, one_accepted, accepted_has_no_fault, accepted_or_fault, one_fault_of}
+use Rattle.br_compile.proofs.Unrefused.{Laws, one_accepted, accepted_has_no_fault, accepted_or_fault, one_fault_of}
 use Rattle.br_compile.proofs.laws.texts_are_accepted_or_at_fault.Goals as goal
 
 pub returns-clause-one_program : goal.returns-clause-one_program
