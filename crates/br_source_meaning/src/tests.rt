@@ -1,6 +1,7 @@
 // Programs that are run.
 
 use crate::{Finished, Interp};
+use br_base::NoMemory;
 use br_bytes::{ByteMap, Choice, Event, Outcome};
 use br_sexpr::read;
 use br_syntax::from_tree;
@@ -29,8 +30,8 @@ const NOTHING: Given = Given {
     fuel: 1000,
 };
 
-// Runs the first function of a text.
-fn run(alloc: Global, text: &str, given: &Given) -> Result<Finished, Fail> {
+// Runs the first function of a text. The run itself may find no memory.
+fn try_run(alloc: Global, text: &str, given: &Given) -> Result<Result<Finished, NoMemory>, Fail> {
     if text.len() > 1_048_576 {
         return Err(Fail::new("a long text"));
     }
@@ -57,7 +58,12 @@ fn run(alloc: Global, text: &str, given: &Given) -> Result<Finished, Fail> {
         given.answers,
         choices.as_slice(),
     )?;
-    Ok(interp.run(given.fuel)?)
+    Ok(interp.run(given.fuel))
+}
+
+// Runs the first function of a text to its end.
+fn run(alloc: Global, text: &str, given: &Given) -> Result<Finished, Fail> {
+    Ok(try_run(alloc, text, given)??)
 }
 
 // The events and the end of a run, separated by commas.
@@ -219,4 +225,25 @@ fn loops_and_calls(rt: HostRuntime) -> Result<(), Fail> {
         assert_eq!(rt; shown(rt.alloc(), &done)?.as_str(), expected, "in {text}");
     }
     Ok(())
+}
+
+// A function that calls itself stands one command deeper with each unit of fuel. The command that
+// finds no fuel stands at 1,024, and with one unit more it would stand past that.
+#[test]
+fn the_deepest_runs(rt: HostRuntime) -> Result<(), Fail> {
+    let text = "(fn main () () (call () main))";
+    let most = Given {
+        fuel: 1023,
+        ..NOTHING
+    };
+    let done = run(rt.alloc(), text, &most)?;
+    assert_eq!(rt; shown(rt.alloc(), &done)?.as_str(), "outoffuel");
+    let deeper = Given {
+        fuel: 1024,
+        ..NOTHING
+    };
+    match try_run(rt.alloc(), text, &deeper)? {
+        Err(NoMemory) => Ok(()),
+        Ok(_) => Err(Fail::new("an answer")),
+    }
 }
