@@ -5,7 +5,7 @@ use Rattle.std.specs.FinMap as map
 use Rattle.br_bytes.specs.declared.run.Choice.{Choice}
 use Rattle.br_bytes.specs.Memory.{Memory}
 use Rattle.br_bytes.specs.Number.{number_of}
-use Rattle.br_bytes.specs.Layout.{stack_base, ram_end}
+use Rattle.br_words.specs.Layout.{stack_base, stack_end}
 
 -- words are numbers below 2 ^ 32
 abbrev pub AreWords : List ℕ → Type 0
@@ -34,7 +34,7 @@ are_free m a (b ∷ bs) = not (map.contains_key m a) && are_free m (a + 1) bs
 abbrev pub is_good : ℕ → Memory → Choice → Bool
 is_good n m c =
     (c.addr % 4 == 0) && (length c.bytes == n)
-    && nat_le stack_base c.addr && nat_le (c.addr + n) ram_end
+    && nat_le stack_base c.addr && nat_le (c.addr + n) stack_end
     && are_free m c.addr c.bytes
 
 -- the memory without the n addresses from `a` on

@@ -3,4 +3,4 @@ pub mod Number
 pub mod Buffers
 pub mod Ranges
 pub mod Called
-pub mod Layout
+pub mod Runs

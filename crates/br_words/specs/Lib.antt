@@ -1,4 +1,5 @@
 pub mod Bits
 pub mod Device
+pub mod Layout
 pub mod Size
 pub mod Words
