@@ -24,8 +24,8 @@ use Rattle.br_syntax.specs.Fault.{place, lower}
 use Rattle.br_syntax.specs.Shape.{is_buffer_size}
 use Rattle.br_syntax.specs.Word.{expr_word, cmd_word}
 use Rattle.br_syntax.specs.Shaped.{Shaped, ◌<$>◌, lowest, both, all}
-use Rattle.br_syntax.specs.Denotes.{offset_of, word_of, name, name_in, names, names_in, name_among, names_after, buffer_size, buffer_size_in, byte, byte_in, bytes, bytes_in, WithExpr, with_expression, of_two, of_three, expression_of, expression_in, expression, argument_at, arguments_from, Places, WithPlaces, places, places_in, with_places, body_of, skip_of, set_of, unset_of, store_of, stackalloc_of, if_of, while_of, target_of, call_of, interact_of, form_of, command_of, behind_of, commands, function_of, function_list, function_in, function, functions}
-use Rattle.br_syntax.specs.Faults.{Faults, in_name, in_name_after, in_names_after, in_names, in_buffer_size, in_byte, in_bytes, WithFaults, in_two, in_three, in_items, in_expression_layer, in_expression, in_arguments_from, FaultPlaces, WithFaultPlaces, in_body, in_target, in_form, in_command_items, in_behind_items, in_places_layer, in_places, in_commands, in_function_items, in_function, all_faults, IsLowest}
+use Rattle.br_syntax.specs.Denotes.{offset_of, word_of, name, name_in, names, names_in, name_among, names_after, buffer_size, buffer_size_in, byte, byte_in, bytes, bytes_in, WithExpr, with_expression, of_two, of_three, of_four, expression_of, expression_in, expression, argument_at, arguments_from, Places, WithPlaces, places, places_in, with_places, body_of, skip_of, set_of, unset_of, store_of, stackalloc_of, if_of, while_of, target_of, call_of, interact_of, form_of, command_of, behind_of, commands, function_of, function_list, function_in, function, functions}
+use Rattle.br_syntax.specs.Faults.{Faults, in_name, in_name_after, in_names_after, in_names, in_buffer_size, in_byte, in_bytes, WithFaults, in_two, in_three, in_four, in_items, in_expression_layer, in_expression, in_arguments_from, FaultPlaces, WithFaultPlaces, in_body, in_target, in_form, in_command_items, in_behind_items, in_places_layer, in_places, in_commands, in_function_items, in_function, all_faults, IsLowest}
 use Rattle.br_syntax.proofs.Joined.{lower_assoc}
 
 -- the fault of a part, if it has one
@@ -158,20 +158,32 @@ two_lowest : (at : ℕ) (first : Option ExprWord) (y : ExprTree) → Lowest (of_
 two_lowest at (Some (e.Load size)) y = of_map (expr.Load size) (expression y.0) (in_expression y.0) y.1
 two_lowest at (Some (e.Table size)) y = bad (BadForm at)
 two_lowest at (Some (e.Op operation)) y = bad (BadForm at)
+two_lowest at (Some e.Ite) y = bad (BadForm at)
 two_lowest at None y = bad (BadForm at)
 
 three_lowest : (at : ℕ) (first : Option ExprWord) (x y : ExprTree) → Lowest (of_three at first (with_expression x.0) (with_expression y.0)) (in_three at first (with_faults x.0) (with_faults y.0))
 three_lowest at (Some (e.Load size)) x y = bad (BadForm at)
 three_lowest at (Some (e.Table size)) x y = of_pair (λ p. expr.Table size p.0 p.1) (bytes x.0) (expression y.0) (in_bytes (out-Tree x.0)) (in_expression y.0) (bytes_lowest (out-Tree x.0)) y.1
 three_lowest at (Some (e.Op operation)) x y = of_pair (λ p. expr.Op operation p.0 p.1) (expression x.0) (expression y.0) (in_expression x.0) (in_expression y.0) x.1 y.1
+three_lowest at (Some e.Ite) x y = bad (BadForm at)
 three_lowest at None x y = bad (BadForm at)
+
+four_lowest : (at : ℕ) (first : Option ExprWord) (x y z : ExprTree) → Lowest (of_four at first (with_expression x.0) (with_expression y.0) (with_expression z.0)) (in_four at first (with_faults x.0) (with_faults y.0) (with_faults z.0))
+four_lowest at (Some (e.Load size)) x y z = bad (BadForm at)
+four_lowest at (Some (e.Table size)) x y z = bad (BadForm at)
+four_lowest at (Some (e.Op operation)) x y z = bad (BadForm at)
+four_lowest at (Some e.Ite) x y z =
+    of_pair (λ p. expr.Ite p.0.0 p.0.1 p.1) (both (expression x.0) (expression y.0)) (expression z.0) (in_expression x.0 ++ in_expression y.0) (in_expression z.0)
+    (of_both (expression x.0) (expression y.0) (in_expression x.0) (in_expression y.0) x.1 y.1) z.1
+four_lowest at None x y z = bad (BadForm at)
 
 items_lowest : (at : ℕ) (ys : List ExprTree) → Lowest (expression_of at (map with_expression (map expr_tree_of ys))) (in_items at (map with_faults (map expr_tree_of ys)))
 items_lowest at [] = bad (BadForm at)
 items_lowest at (head ∷ []) = bad (BadForm at)
 items_lowest at (head ∷ x ∷ []) = two_lowest at (expr_word (word_of head.0)) x
 items_lowest at (head ∷ x ∷ y ∷ []) = three_lowest at (expr_word (word_of head.0)) x y
-items_lowest at (head ∷ x ∷ y ∷ z ∷ more) = bad (BadForm at)
+items_lowest at (head ∷ x ∷ y ∷ z ∷ []) = four_lowest at (expr_word (word_of head.0)) x y z
+items_lowest at (head ∷ x ∷ y ∷ z ∷ w ∷ more) = bad (BadForm at)
 
 expr_layer_lowest : (y : Tree-F ExprTree) → Lowest (expression_in (map-Tree Tree WithExpr with_expression (map-Tree ExprTree Tree expr_tree_of y))) (in_expression_layer (map-Tree Tree WithFaults with_faults (map-Tree ExprTree Tree expr_tree_of y)))
 expr_layer_lowest (Name at text) = good (expr.Var text)

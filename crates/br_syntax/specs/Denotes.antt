@@ -126,11 +126,16 @@ table_of size bytes index = (λ p. expr.Table size p.0 p.1) <$> both bytes index
 abbrev pub operation_of : BinOp → Shaped Expr → Shaped Expr → Shaped Expr
 operation_of operation first second = (λ p. expr.Op operation p.0 p.1) <$> both first second
 
+-- a test, and the words where it is not 0 and where it is
+abbrev pub ite_of : Shaped Expr → Shaped Expr → Shaped Expr → Shaped Expr
+ite_of test first second = (λ p. expr.Ite p.0.0 p.0.1 p.1) <$> both (both test first) second
+
 -- a list of two items
 abbrev pub of_two : ℕ → Option ExprWord → WithExpr → Shaped Expr
 of_two at (Some (e.Load size)) x = load_of size x.1
 of_two at (Some (e.Table size)) x = Err (BadForm at)
 of_two at (Some (e.Op operation)) x = Err (BadForm at)
+of_two at (Some e.Ite) x = Err (BadForm at)
 of_two at None x = Err (BadForm at)
 
 -- a list of three items
@@ -138,7 +143,16 @@ abbrev pub of_three : ℕ → Option ExprWord → WithExpr → WithExpr → Shap
 of_three at (Some (e.Load size)) x y = Err (BadForm at)
 of_three at (Some (e.Table size)) x y = table_of size (bytes x.0) y.1
 of_three at (Some (e.Op operation)) x y = operation_of operation x.1 y.1
+of_three at (Some e.Ite) x y = Err (BadForm at)
 of_three at None x y = Err (BadForm at)
+
+-- a list of four items
+abbrev pub of_four : ℕ → Option ExprWord → WithExpr → WithExpr → WithExpr → Shaped Expr
+of_four at (Some (e.Load size)) x y z = Err (BadForm at)
+of_four at (Some (e.Table size)) x y z = Err (BadForm at)
+of_four at (Some (e.Op operation)) x y z = Err (BadForm at)
+of_four at (Some e.Ite) x y z = ite_of x.1 y.1 z.1
+of_four at None x y z = Err (BadForm at)
 
 -- a list of these items at a place that asks for an expression
 abbrev pub expression_of : ℕ → List WithExpr → Shaped Expr
@@ -146,7 +160,8 @@ expression_of at [] = Err (BadForm at)
 expression_of at (head ∷ []) = Err (BadForm at)
 expression_of at (head ∷ x ∷ []) = of_two at (expr_word (word_of head.0)) x
 expression_of at (head ∷ x ∷ y ∷ []) = of_three at (expr_word (word_of head.0)) x y
-expression_of at (head ∷ x ∷ y ∷ z ∷ more) = Err (BadForm at)
+expression_of at (head ∷ x ∷ y ∷ z ∷ []) = of_four at (expr_word (word_of head.0)) x y z
+expression_of at (head ∷ x ∷ y ∷ z ∷ w ∷ more) = Err (BadForm at)
 
 -- one layer of a tree at a place that asks for an expression
 abbrev pub expression_in : Tree-F WithExpr → Shaped Expr

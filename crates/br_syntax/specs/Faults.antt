@@ -73,6 +73,7 @@ abbrev pub in_two : ℕ → Option ExprWord → WithFaults → Faults
 in_two at (Some (e.Load size)) x = x.1
 in_two at (Some (e.Table size)) x = BadForm at ∷ []
 in_two at (Some (e.Op operation)) x = BadForm at ∷ []
+in_two at (Some e.Ite) x = BadForm at ∷ []
 in_two at None x = BadForm at ∷ []
 
 -- a list of three items
@@ -80,7 +81,16 @@ abbrev pub in_three : ℕ → Option ExprWord → WithFaults → WithFaults → 
 in_three at (Some (e.Load size)) x y = BadForm at ∷ []
 in_three at (Some (e.Table size)) x y = in_bytes (out-Tree x.0) ++ y.1
 in_three at (Some (e.Op operation)) x y = x.1 ++ y.1
+in_three at (Some e.Ite) x y = BadForm at ∷ []
 in_three at None x y = BadForm at ∷ []
+
+-- a list of four items
+abbrev pub in_four : ℕ → Option ExprWord → WithFaults → WithFaults → WithFaults → Faults
+in_four at (Some (e.Load size)) x y z = BadForm at ∷ []
+in_four at (Some (e.Table size)) x y z = BadForm at ∷ []
+in_four at (Some (e.Op operation)) x y z = BadForm at ∷ []
+in_four at (Some e.Ite) x y z = (x.1 ++ y.1) ++ z.1
+in_four at None x y z = BadForm at ∷ []
 
 -- a list of these items
 abbrev pub in_items : ℕ → List WithFaults → Faults
@@ -88,7 +98,8 @@ in_items at [] = BadForm at ∷ []
 in_items at (head ∷ []) = BadForm at ∷ []
 in_items at (head ∷ x ∷ []) = in_two at (expr_word (word_of head.0)) x
 in_items at (head ∷ x ∷ y ∷ []) = in_three at (expr_word (word_of head.0)) x y
-in_items at (head ∷ x ∷ y ∷ z ∷ more) = BadForm at ∷ []
+in_items at (head ∷ x ∷ y ∷ z ∷ []) = in_four at (expr_word (word_of head.0)) x y z
+in_items at (head ∷ x ∷ y ∷ z ∷ w ∷ more) = BadForm at ∷ []
 
 -- one layer of a tree at a place that asks for an expression
 abbrev pub in_expression_layer : Tree-F WithFaults → Faults

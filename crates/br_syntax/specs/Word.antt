@@ -8,7 +8,7 @@ use Rattle.br_syntax.specs.declared.word.ExprWord.TheVariants as e
 use Rattle.br_syntax.specs.declared.word.CmdWord.{CmdWord}
 use Rattle.br_syntax.specs.declared.word.CmdWord.TheVariants as c
 
--- what a word begins an expression with: a load, a table or an operation
+-- what a word begins an expression with: a load, a table, an operation or a conditional expression
 abbrev pub expr_word : List ℕ → Option ExprWord
 expr_word w =
     if bytes_eq w (codes "load1") then Some (e.Load One)
@@ -32,7 +32,8 @@ expr_word w =
     else (if bytes_eq w (codes "lts") then Some (e.Op op.Lts)
     else (if bytes_eq w (codes "ltu") then Some (e.Op op.Ltu)
     else (if bytes_eq w (codes "eq") then Some (e.Op op.Eq)
-    else None))))))))))))))))))))
+    else (if bytes_eq w (codes "ite") then Some e.Ite
+    else None)))))))))))))))))))))
 
 -- what a word begins a command with
 abbrev pub cmd_word : List ℕ → Option CmdWord

@@ -1,7 +1,7 @@
 // Trees as expressions.
 
 ghost use Rattle.std.specs.Prelude.{◌≡◌, IfOk, map};
-ghost use Rattle.br_syntax.specs.Denotes.{expression, expression_of, of_two, of_three, with_expression, argument_at, arguments_from, load_of, table_of, operation_of};
+ghost use Rattle.br_syntax.specs.Denotes.{expression, expression_of, of_two, of_three, of_four, with_expression, argument_at, arguments_from, load_of, table_of, operation_of, ite_of};
 
 use crate::fault::ShapeFault;
 use crate::part::{MOST_NAMES, bytes};
@@ -36,6 +36,7 @@ fn expression_of(alloc: Global, at: u32, items: &[Tree]) -> Result<Shaped<Expr>,
     match items {
         [head, x] => of_two(alloc, at, expr_word(word(head)), x),
         [head, x, y] => of_three(alloc, at, expr_word(word(head)), x, y),
+        [head, x, y, z] => of_four(alloc, at, expr_word(word(head)), x, y, z),
         _ => Ok(Err(ShapeFault::BadForm(at))),
     }
 }
@@ -51,7 +52,7 @@ fn of_two(
 {
     match first {
         Some(ExprWord::Load(size)) => load(alloc, size, expression(alloc, x)?),
-        Some(ExprWord::Table(_)) | Some(ExprWord::Op(_)) | None => {
+        Some(ExprWord::Table(_)) | Some(ExprWord::Op(_)) | Some(ExprWord::Ite) | None => {
             Ok(Err(ShapeFault::BadForm(at)))
         }
     }
@@ -77,7 +78,31 @@ fn of_three(
                 expression(alloc, y)?,
             )
         }
-        Some(ExprWord::Load(_)) | None => Ok(Err(ShapeFault::BadForm(at))),
+        Some(ExprWord::Load(_)) | Some(ExprWord::Ite) | None => Ok(Err(ShapeFault::BadForm(at))),
+    }
+}
+
+#[cycle(expression)]
+fn of_four(
+    alloc: Global,
+    at: u32,
+    first: Option<ExprWord>,
+    x: &Tree,
+    y: &Tree,
+    z: &Tree,
+) -> Result<Shaped<Expr>, NoMemory>
+    ensures { IfOk result (λ r. r ≡ of_four at first (with_expression x.now) (with_expression y.now) (with_expression z.now)) }
+{
+    match first {
+        Some(ExprWord::Ite) => {
+            let test = expression(alloc, x)?;
+            let first = expression(alloc, y)?;
+            let second = expression(alloc, z)?;
+            choose(alloc, test, first, second)
+        }
+        Some(ExprWord::Load(_)) | Some(ExprWord::Table(_)) | Some(ExprWord::Op(_)) | None => {
+            Ok(Err(ShapeFault::BadForm(at)))
+        }
     }
 }
 
@@ -117,6 +142,25 @@ fn operate(
             let first = Boxed::new(alloc, first)?;
             let second = Boxed::new(alloc, second)?;
             Ok(Ok(Expr::Op(operation, first, second)))
+        }
+        Err(fault) => Ok(Err(fault)),
+    }
+}
+
+fn choose(
+    alloc: Global,
+    test: Shaped<Expr>,
+    first: Shaped<Expr>,
+    second: Shaped<Expr>,
+) -> Result<Shaped<Expr>, NoMemory>
+    ensures { IfOk result (λ r. r ≡ ite_of test first second) }
+{
+    match both(both(test, first), second) {
+        Ok(((test, first), second)) => {
+            let test = Boxed::new(alloc, test)?;
+            let first = Boxed::new(alloc, first)?;
+            let second = Boxed::new(alloc, second)?;
+            Ok(Ok(Expr::Ite(test, first, second)))
         }
         Err(fault) => Ok(Err(fault)),
     }

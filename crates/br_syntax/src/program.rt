@@ -19,6 +19,8 @@ pub enum Expr {
     Table(Size, Items<u8>, Boxed<Expr>),
     /// An operation on two words.
     Op(BinOp, Boxed<Expr>, Boxed<Expr>),
+    /// The second where the first is not 0, else the third. The other is not looked at.
+    Ite(Boxed<Expr>, Boxed<Expr>, Boxed<Expr>),
 }
 
 /// A command, which changes variables, memory and devices.

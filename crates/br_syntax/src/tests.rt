@@ -38,6 +38,7 @@ fn texts_without_fault(rt: HostRuntime) -> Result<(), Fail> {
         "(fn f (a b c d e f g h) () (call () g 0 0 0 0 0 0 0 0))",
         "(fn f () () (skip) (set x (load1 0)) (unset x) (store4 0 (srs x 1)) (while 0) (seq))",
         "(fn f () () (stackalloc b 8 (interact () g b)) (if 1 (then (skip)) (else)))",
+        "(fn ite (ite) (r) (set ite (ite ite (load1 ite) (ite 1 2 3))))",
     ] {
         assert_eq!(rt; fault_in(rt.alloc(), text)?, None, "in {text}");
     }
@@ -50,6 +51,10 @@ fn the_lowest_fault(rt: HostRuntime) -> Result<(), Fail> {
         ("x", ShapeFault::BadForm(0)),
         ("(fn f () () (set x))", ShapeFault::BadForm(12)),
         ("(fn f () () (then))", ShapeFault::BadForm(12)),
+        ("(fn f () (r) (set r (ite 1 2)))", ShapeFault::BadForm(20)),
+        ("(fn f () (r) (set r (ite 1 2 3 4)))", ShapeFault::BadForm(20)),
+        ("(fn f () (r) (set r (ite 1 () (x))))", ShapeFault::BadForm(27)),
+        ("(fn f () () (ite 1 2 3))", ShapeFault::BadForm(12)),
         ("(fn f () () (if 1 (then) (then)))", ShapeFault::BadForm(25)),
         ("(fn f () () (stackalloc x 6))", ShapeFault::BadSize(26)),
         ("(fn f () () (stackalloc x 65540))", ShapeFault::BadSize(26)),

@@ -33,6 +33,7 @@ pub enum ExprWord {
     Load(Size),
     Table(Size),
     Op(BinOp),
+    Ite,
 }
 
 /// What a command begins with.
@@ -76,6 +77,7 @@ pub fn expr_word(word: &[u8]) -> Option<ExprWord>
         b"lts" => Some(ExprWord::Op(BinOp::Lts)),
         b"ltu" => Some(ExprWord::Op(BinOp::Ltu)),
         b"eq" => Some(ExprWord::Op(BinOp::Eq)),
+        b"ite" => Some(ExprWord::Ite),
         _ => None,
     }
 }
@@ -147,6 +149,14 @@ pub fn operation_word(operation: BinOp) -> &'static [u8]
         BinOp::Ltu => b"ltu",
         BinOp::Eq => b"eq",
     }
+}
+
+/// The word of a conditional expression.
+pub fn ite_word() -> &'static [u8]
+    ensures meaning { expr_word result.now ≡ Some ExprWord.Ite }
+    ensures name { IsName result.now }
+{
+    b"ite"
 }
 
 /// The word of a store.

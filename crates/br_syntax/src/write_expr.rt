@@ -7,7 +7,7 @@ ghost use Rattle.br_syntax.specs.Shaped.{all};
 ghost use Rattle.br_syntax.specs.Offsets.{is_unplaced, AreUnplaced};
 
 use crate::program::Expr;
-use crate::word::{load_word, operation_word, table_word};
+use crate::word::{ite_word, load_word, operation_word, table_word};
 use br_base::{Name, NoMemory};
 use br_sexpr::Tree;
 use sqlite_items::Items;
@@ -84,6 +84,18 @@ fn list_of_three(alloc: Global, word: &[u8], x: Tree, y: Tree) -> Result<Tree, N
     Ok(Tree::List { at: 0, items })
 }
 
+// A list that begins with this word and has three more items.
+fn list_of_four(alloc: Global, word: &[u8], x: Tree, y: Tree, z: Tree) -> Result<Tree, NoMemory>
+    requires { IsName word.now }
+    ensures { IfOk result (λ t. t ≡ Tree.List 0 (Tree.Name 0 word.now ∷ x ∷ y ∷ z ∷ [])) }
+{
+    let mut items = form(alloc, word)?;
+    items.push(x)?;
+    items.push(y)?;
+    items.push(z)?;
+    Ok(Tree::List { at: 0, items })
+}
+
 /// An expression as a tree.
 #[tactic(auto, using(crate::proofs::WrittenExpr::expressions))]
 pub fn expr_tree(alloc: Global, e: &Expr) -> Result<Tree, NoMemory>
@@ -112,6 +124,12 @@ pub fn expr_tree(alloc: Global, e: &Expr) -> Result<Tree, NoMemory>
             let first = expr_tree(alloc, first.get())?;
             let second = expr_tree(alloc, second.get())?;
             list_of_three(alloc, operation_word(*operation), first, second)
+        }
+        Expr::Ite(test, first, second) => {
+            let test = expr_tree(alloc, test.get())?;
+            let first = expr_tree(alloc, first.get())?;
+            let second = expr_tree(alloc, second.get())?;
+            list_of_four(alloc, ite_word(), test, first, second)
         }
     }
 }

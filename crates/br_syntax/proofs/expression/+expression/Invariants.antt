@@ -15,3 +15,6 @@ decreases-of_two l = 3 * the_size l.x.now + 1
 
 abbrev pub decreases-of_three : goal.decreases-of_three
 decreases-of_three l = 3 * max (the_size l.x.now) (the_size l.y.now) + 1
+
+abbrev pub decreases-of_four : goal.decreases-of_four
+decreases-of_four l = 3 * max (the_size l.x.now) (max (the_size l.y.now) (the_size l.z.now)) + 1
