@@ -6,7 +6,7 @@ use Rattle.br_bytes.specs.declared.run.Outcome.{Outcome}
 use Rattle.br_bytes.specs.declared.run.Outcome.TheVariants.{Done, Waiting, OutOfFuel, Undefined, NoChoice}
 use Rattle.br_bytes.specs.Memory.{Memory}
 use Rattle.br_machine.specs.declared.stepped.Stepped.TheVariants as stepped
-use Rattle.br_machine.specs.Layout.{data_base, stack_base, ram_end}
+use Rattle.br_words.specs.Layout.{data_base, stack_base, stack_end}
 use Rattle.br_machine.specs.State.{MachineState, register, byte_of}
 use Rattle.br_machine.specs.Step.{step}
 use Rattle.br_machine.specs.Steps.{Moment, Runs}
@@ -38,7 +38,7 @@ pub record Reaches (start : MachineState) (answers : List ℕ) (outcome : Outcom
   pub steps : ℕ
   pub within : steps ≤ bound
   pub last : Moment
-  pub runs : Runs (ram_end - need) steps (record { machine = start; answers = answers; trace = [] }) last
+  pub runs : Runs (stack_end - need) steps (record { machine = start; answers = answers; trace = [] }) last
   pub shows_trace : last.trace ≡ trace
   pub shows_memory : ShowsMemory memory start last.machine
   pub shows_end : ShowsEnd outcome fuel steps last

@@ -4,7 +4,7 @@ use Rattle.std.specs.Prelude.{◌/◌, ◌%◌, Some, unwrap_or, slice_get, slic
 use Rattle.std.specs.Ordering.{nat_cmp}
 use Rattle.std.specs.FinMap as map
 use Rattle.br_bytes.specs.Number.{low_bytes}
-use Rattle.br_machine.specs.Layout.{code_base, data_base, ram_end}
+use Rattle.br_words.specs.Layout.{data_base, stack_end}
 use Rattle.br_machine.specs.State.{MachineState, IsMachine}
 use Rattle.br_machine.specs.Start.{IsLeftover, code_bytes, overlaid, start, start_ram, with_words}
 use Rattle.br_machine.specs.Junk.{junk_of}
@@ -18,35 +18,9 @@ pub length-code_bytes : (code : List ℕ) → length (code_bytes code) ≡ 4 * l
 length-code_bytes [] = refl
 length-code_bytes (w ∷ code) = omega (arith, length-append (low_bytes 4 w) (code_bytes code), length-code_bytes code)
 
-pub overlaid-none : (bs : List ℕ) (a : ℕ) → overlaid map.empty a bs ≡ bs
-overlaid-none [] a = refl
-overlaid-none (b ∷ bs) a =
-    ap (λ o. unwrap_or o b ∷ overlaid map.empty (a + 1) bs) (map.get-empty nat_cmp a) ∙ ap (λ xs. b ∷ xs) (overlaid-none bs (a + 1))
-
-pub start_ram-junk : (code : List ℕ) (word : ℕ) → start_ram code map.empty (junk_of word) ≡ code_bytes code ++ replicate (1048576 - 4 * length code) 0 ++ (junk_of word).bytes
-unfolding start_ram
-start_ram-junk code word = ap (λ xs. code_bytes code ++ replicate (1048576 - 4 * length code) 0 ++ xs) (overlaid-none (junk_of word).bytes 2148532224)
-
-pub bytes-junk_of : (word : ℕ) → (junk_of word).bytes ≡ code_bytes (replicate 524288 word)
+pub bytes-junk_of : (word : ℕ) → (junk_of word).bytes ≡ code_bytes (replicate ((stack_end - data_base) / 4) word)
 unfolding junk_of
 bytes-junk_of word = refl
-
--- the code region: the code, and zeros behind it
-region : (xs code : List ℕ) (n : ℕ) → xs ≡ code_bytes code → n ≡ length xs → length code ≤ 262144
-    → take 1048576 xs ++ replicate (1048576 - n) 0 ≡ code_bytes code ++ replicate (1048576 - 4 * length code) 0
-region xs code n is count few =
-    let long : length xs ≡ 4 * length code = ap length is ∙ length-code_bytes code in
-    let whole : take 1048576 xs ≡ xs = take_all 1048576 xs (omega arith) in
-    ap (λ ys. ys ++ replicate (1048576 - n) 0) (whole ∙ is)
-    ∙ ap (λ k. code_bytes code ++ replicate k 0) (let e : 1048576 - n ≡ 1048576 - 4 * length code = omega arith in e)
-
-pub start_ram-from : (xs ys zs code : List ℕ) (n word : ℕ) → xs ≡ code_bytes code → n ≡ length xs → length code ≤ 262144
-    → ys ≡ take 1048576 xs ++ replicate (1048576 - n) 0 → zs ≡ ys ++ code_bytes (replicate 524288 word)
-    → zs ≡ start_ram code map.empty (junk_of word)
-start_ram-from xs ys zs code n word is count few filled more =
-    more ∙ ap (λ v. v ++ code_bytes (replicate 524288 word)) (filled ∙ region xs code n is count few)
-    ∙ ap (λ v. code_bytes code ++ replicate (1048576 - 4 * length code) 0 ++ v) (sym (bytes-junk_of word))
-    ∙ sym (start_ram-junk code word)
 
 -- ---- the machine
 
@@ -78,40 +52,6 @@ registers-junk_of : (word : ℕ) → (junk_of word).registers ≡ replicate 32 w
 unfolding junk_of
 registers-junk_of word = refl
 
--- the parts that code makes are those of the start
-pub same_start : (registers ram code args : List ℕ) (words entry word : ℕ)
-    → registers ≡ with_words 10 args (slice_set (replicate 32 word) 0 0) → ram ≡ start_ram code map.empty (junk_of word) → words ≡ length code
-    → (let s : MachineState = record { registers = registers; pc = code_base + entry; ram = ram; code_words = words } in s ≡ start code entry args map.empty (junk_of word))
-same_start registers ram code args words entry word r m w =
-    let made : List ℕ → List ℕ → ℕ → MachineState = λ x y z. record { registers = x; pc = code_base + entry; ram = y; code_words = z } in
-    ap (λ x. made x ram words) (r ∙ ap (λ x. with_words 10 args (slice_set x 0 0)) (sym (registers-junk_of word)))
-    ∙ ap (λ y. made (with_words 10 args (slice_set (junk_of word).registers 0 0)) y words) m
-    ∙ ap (λ z. made (with_words 10 args (slice_set (junk_of word).registers 0 0)) (start_ram code map.empty (junk_of word)) z) w
-
-pub IsMachine-start : (code args : List ℕ) (entry word : ℕ) → length code ≤ 262144 → entry < 1048576 → AllByRecursion (λ x. x < 2 ^ 32) args → word < 2 ^ 32
-    → IsMachine (start code entry args map.empty (junk_of word))
-IsMachine-start code args entry word few inside small fits =
-    let kept : AllByRecursion (λ x. x < 2 ^ 32) (replicate 32 word) = all_below-replicate (2 ^ 32) 32 word fits in
-    let ram : start_ram code map.empty (junk_of word) ≡ code_bytes code ++ replicate (1048576 - 4 * length code) 0 ++ code_bytes (replicate 524288 word) =
-    start_ram-junk code word ∙ ap (λ v. code_bytes code ++ replicate (1048576 - 4 * length code) 0 ++ v) (bytes-junk_of word) in
-    record {
-      registers = length-with_words args _ 10 ∙ length-set (junk_of word).registers 0 0 ∙ ap length (registers-junk_of word) ∙ length-replicate 32 word;
-      words = all_below-with_words (2 ^ 32) args _ 10 small (all_below-set (2 ^ 32) (junk_of word).registers 0 0 (subst (AllByRecursion (λ x. x < 2 ^ 32)) (sym (registers-junk_of word)) kept) (omega arith));
-      pc = omega arith;
-      ram =
-          ap length ram ∙ length-append (code_bytes code ++ replicate (1048576 - 4 * length code) 0) (code_bytes (replicate 524288 word))
-          ∙ total code (code_bytes (replicate 524288 word)) few (length-code_bytes (replicate 524288 word) ∙ ap (λ n. 4 * n) (length-replicate 524288 word));
-      bytes = subst (AllByRecursion (λ b. b < 256)) (sym ram)
-          (all_below-append 256 (code_bytes code ++ replicate (1048576 - 4 * length code) 0) (code_bytes (replicate 524288 word))
-          (all_below-append 256 (code_bytes code) (replicate (1048576 - 4 * length code) 0) (all_below-code_bytes code) (all_below-replicate 256 (1048576 - 4 * length code) 0 (omega arith)))
-          (all_below-code_bytes (replicate 524288 word)));
-      code = few;
-    }
-  where
-    total : (code bytes : List ℕ) → length code ≤ 262144 → length bytes ≡ 2097152 → length (code_bytes code ++ replicate (1048576 - 4 * length code) 0) + length bytes ≡ 3145728
-    total code bytes few h =
-        omega (arith, length-append (code_bytes code) (replicate (1048576 - 4 * length code) 0), length-code_bytes code, length-replicate {A = ℕ} (1048576 - 4 * length code) 0)
-
 -- ---- the contents that a word tells
 
 slice_get-replicate : (n j word : ℕ) → j < n → slice_get (replicate n word) j ≡ Some word
@@ -119,18 +59,18 @@ slice_get-replicate zero j word h = absurd (omega arith)
 slice_get-replicate (suc n) zero word h = refl
 slice_get-replicate (suc n) (suc j) word h = slice_get-replicate n j word (omega arith)
 
-pub byte-junk_of : (word a : ℕ) → data_base ≤ a → a < ram_end → slice_index (junk_of word).bytes (a - data_base) ≡ slice_index (low_bytes 4 word) (a % 4)
+pub byte-junk_of : (word a : ℕ) → data_base ≤ a → a < stack_end → slice_index (junk_of word).bytes (a - data_base) ≡ slice_index (low_bytes 4 word) (a % 4)
 byte-junk_of word a from to =
     let j : ℕ = (a - data_base) / 4 in
     let place : a - data_base ≡ 4 * j + a % 4 = omega arith in
     ap (λ xs. slice_index xs (a - data_base)) (bytes-junk_of word)
-    ∙ ap (slice_index (code_bytes (replicate 524288 word))) place
-    ∙ code_bytes-at (replicate 524288 word) j word (a % 4) (slice_get-replicate 524288 j word (omega arith)) (omega arith)
+    ∙ ap (slice_index (code_bytes (replicate ((stack_end - data_base) / 4) word))) place
+    ∙ code_bytes-at (replicate ((stack_end - data_base) / 4) word) j word (a % 4) (slice_get-replicate 524288 j word (omega arith)) (omega arith)
 
 pub IsLeftover-junk_of : (word : ℕ) → word < 2 ^ 32 → IsLeftover (junk_of word)
 IsLeftover-junk_of word fits = record {
   registers = ap length (registers-junk_of word) ∙ length-replicate 32 word;
   words = subst (AllByRecursion (λ x. x < 2 ^ 32)) (sym (registers-junk_of word)) (all_below-replicate (2 ^ 32) 32 word fits);
-  bytes = ap length (bytes-junk_of word) ∙ length-code_bytes (replicate 524288 word) ∙ ap (λ n. 4 * n) (length-replicate 524288 word);
-  small = subst (AllByRecursion (λ b. b < 256)) (sym (bytes-junk_of word)) (all_below-code_bytes (replicate 524288 word));
+  bytes = ap length (bytes-junk_of word) ∙ length-code_bytes (replicate ((stack_end - data_base) / 4) word) ∙ ap (λ n. 4 * n) (length-replicate 524288 word);
+  small = subst (AllByRecursion (λ b. b < 256)) (sym (bytes-junk_of word)) (all_below-code_bytes (replicate ((stack_end - data_base) / 4) word));
 }

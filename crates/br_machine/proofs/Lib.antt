@@ -1,3 +1,4 @@
+pub mod Regions
 pub mod Ram
 pub mod Fetch
 pub mod Straight

@@ -1,5 +1,5 @@
 -- Bytes of RAM: what a write leaves elsewhere, and what a read finds.
-use Rattle.std.proofs.Common.{◌≡◌, ◌≢◌, ◌⊎◌, inl, inr, ℕ, zero, suc, ◌+◌, ◌*◌, ◌/◌, ◌%◌, ◌^◌, ◌<◌, ◌≤◌, List, [], ◌∷◌, length, take, get_or, refl, sym, ap, subst, ◌∙◌, arith, add-one}
+use Rattle.std.proofs.Common.{◌≡◌, ◌≢◌, ◌⊎◌, inl, inr, ℕ, zero, suc, ◌+◌, ◌*◌, ◌/◌, ◌%◌, ◌^◌, ◌<◌, ◌≤◌, List, [], ◌∷◌, length, take, drop, get_or, refl, sym, ap, subst, ◌∙◌, arith, add-one}
 use Rattle.std.proofs.Math.ListN.{length-set}
 use Rattle.std.proofs.lemmas.List.{get_or-set_other, get_or-set_same, take-set-le}
 use Rattle.std.specs.Prelude.{slice_index, slice_set}
@@ -10,7 +10,7 @@ pub length-with_bytes_from : (bs ram : List ℕ) (p : ℕ) → length (with_byte
 length-with_bytes_from [] ram p = refl
 length-with_bytes_from (b ∷ bs) ram p = length-with_bytes_from bs (slice_set ram p b) (p + 1) ∙ length-set ram p b
 
--- a place before the bytes, or behind them
+-- a place before the bytes, or after them
 pub index-with_bytes_from : (bs ram : List ℕ) (p q : ℕ) → (q < p) ⊎ (p + length bs ≤ q) → slice_index (with_bytes_from ram p bs) q ≡ slice_index ram q
 index-with_bytes_from [] ram p q apart = refl
 index-with_bytes_from (b ∷ bs) ram p q apart =
@@ -41,10 +41,28 @@ bytes_from-same (suc n) ram ram' p same =
     let rest = bytes_from-same n ram ram' (p + 1) (λ q l h. same q (omega arith) (omega arith)) in
     rw (here, rest) refl
 
--- a front of RAM before the bytes stays
-pub take-with_bytes_from : (bs ram : List ℕ) (n p : ℕ) → n ≤ p → take n (with_bytes_from ram p bs) ≡ take n ram
-take-with_bytes_from [] ram n p h = refl
-take-with_bytes_from (b ∷ bs) ram n p h = take-with_bytes_from bs (slice_set ram p b) n (p + 1) (omega arith) ∙ take-set-le n ram p b h
+-- a stretch of RAM that lies apart from a byte stays
+take_drop-set : (ram : List ℕ) (n k p b : ℕ) → (p < k) ⊎ (k + n ≤ p) → take n (drop k (slice_set ram p b)) ≡ take n (drop k ram)
+take_drop-set [] n k p b apart = refl
+take_drop-set (x ∷ ram) n zero p b (inl h) = absurd (omega arith)
+take_drop-set (x ∷ ram) n zero p b (inr h) = take-set-le n (x ∷ ram) p b (omega arith)
+take_drop-set (x ∷ ram) n (suc k) zero b apart = refl
+take_drop-set (x ∷ ram) n (suc k) (suc p) b (inl h) = take_drop-set ram n k p b (inl (omega arith))
+take_drop-set (x ∷ ram) n (suc k) (suc p) b (inr h) = take_drop-set ram n k p b (inr (omega arith))
+
+-- a stretch of RAM before the bytes, or after them, stays
+pub take_drop-with_bytes_from : (bs ram : List ℕ) (n k p : ℕ) → (p + length bs ≤ k) ⊎ (k + n ≤ p) → take n (drop k (with_bytes_from ram p bs)) ≡ take n (drop k ram)
+take_drop-with_bytes_from [] ram n k p apart = refl
+take_drop-with_bytes_from (b ∷ bs) ram n k p apart =
+    take_drop-with_bytes_from bs (slice_set ram p b) n k (p + 1) (further apart) ∙ take_drop-set ram n k p b (here apart)
+  where
+    further : (p + suc (length bs) ≤ k) ⊎ (k + n ≤ p) → (p + 1 + length bs ≤ k) ⊎ (k + n ≤ p + 1)
+    further (inl h) = inl (omega arith)
+    further (inr h) = inr (omega arith)
+
+    here : (p + suc (length bs) ≤ k) ⊎ (k + n ≤ p) → (p < k) ⊎ (k + n ≤ p)
+    here (inl h) = inl (omega arith)
+    here (inr h) = inr (omega arith)
 
 pub length-low_bytes : (n v : ℕ) → length (low_bytes n v) ≡ n
 length-low_bytes zero v = refl

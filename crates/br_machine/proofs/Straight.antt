@@ -1,4 +1,4 @@
--- Straight code: one instruction at a time, and one stretch of steps behind another.
+-- Straight code: one instruction at a time, and one stretch of steps after another.
 use Rattle.std.proofs.Common.{◌≡◌, ◌≢◌, ◌⊎◌, inl, inr, ℕ, zero, suc, ◌+◌, ◌-◌, ◌*◌, ◌^◌, ◌<◌, ◌≤◌, List, [], ◌∷◌, ◌++◌, length, map, Option, Some, None, Bool, true, false, refl, sym, ap, subst, ◌∙◌, arith, append_assoc, length-append}
 use Rattle.std.specs.Prelude.{slice_get, slice_index, slice_set, ◌==◌, nat_lt, nat_le, ◌%◌, ◌&&◌, ◌||◌, if◌then◌else◌, ℤ}
 use Rattle.std.proofs.Math.ListN.{length-set}
@@ -15,18 +15,20 @@ use Rattle.br_rv32im.specs.declared.instruction.StoreOp.TheVariants.{Sw}
 use Rattle.br_rv32im.specs.Row.{row_of}
 use Rattle.br_machine.specs.declared.stepped.Stepped.{Stepped}
 use Rattle.br_machine.specs.declared.stepped.Stepped.TheVariants.{Ran, Wrote}
-use Rattle.br_machine.specs.Layout.{code_base, data_base, ram_end, stack_base}
-use Rattle.br_machine.specs.State.{MachineState, register, with_register, bytes_from, with_bytes_from}
-use Rattle.br_machine.specs.Traps.{trap_of, in_ram, load_trap, store_trap, address}
+use Rattle.br_words.specs.declared.layout.Layout.{Layout}
+use Rattle.br_words.specs.Layout.{code_base, code_end, data_base, ram_base, ram_end, most_words, stack_base, stack_end}
+use Rattle.br_machine.specs.State.{MachineState, code_place, register, with_register, bytes_from, with_bytes_from}
+use Rattle.br_machine.specs.Traps.{trap_of, in_ram, meet, load_trap, store_trap, address}
 use Rattle.br_machine.specs.Effects.{effect, computes, moved_on, device_read}
 use Rattle.br_machine.specs.Step.{step, fetched, obey}
 use Rattle.br_machine.specs.Steps.{Moment, moment_after, next_answer, next_step, code_region, accessed, IsAbove, StepsTo, Runs}
 use Rattle.br_machine.proofs.Fetch.{HasCode, step-at, fetched-code}
-use Rattle.br_machine.proofs.Ram.{take-with_bytes_from}
+use Rattle.br_machine.proofs.Ram.{take_drop-with_bytes_from}
+use Rattle.br_machine.proofs.Regions.{regions}
 
 -- ---- stretches of steps
 
--- one stretch behind another
+-- one stretch after another
 pub Runs-append : (low n k : ℕ) (a b c : Moment) → Runs low n a b → Runs low k b c → Runs low (n + k) a c
 Runs-append low zero k a b c first second =
     let same : k ≡ 0 + k = omega arith in
@@ -48,6 +50,10 @@ ram-with_register (suc r) v s = refl
 pub pc-with_register : (r v : ℕ) (s : MachineState) → (with_register r v s).pc ≡ s.pc
 pc-with_register zero v s = refl
 pc-with_register (suc r) v s = refl
+
+pub layout-with_register : (r v : ℕ) (s : MachineState) → (with_register r v s).layout ≡ s.layout
+layout-with_register zero v s = refl
+layout-with_register (suc r) v s = refl
 
 pub code_words-with_register : (r v : ℕ) (s : MachineState) → (with_register r v s).code_words ≡ s.code_words
 code_words-with_register zero v s = refl
@@ -74,7 +80,7 @@ IsAbove-none low b from to in_stack = absurd (omega arith)
 
 -- an instruction that breaks no rule leads on to what its effect says
 pub steps_by : (code : List ℕ) (low : ℕ) (m next : Moment) (j w : ℕ) (i : Ins) (s : MachineState) (how : Stepped)
-    → HasCode code m.machine → slice_get code j ≡ Some w → w < 2 ^ 32 → row_of w ≡ Some i → m.machine.pc ≡ code_base + 4 * j
+    → HasCode code m.machine → slice_get code j ≡ Some w → w < 2 ^ 32 → row_of w ≡ Some i → m.machine.pc ≡ code_base m.machine.layout + 4 * j
     → trap_of i m.machine ≡ None → effect i m.machine (next_answer m) ≡ (s, how) → moment_after m (s, how) ≡ Some next
     → code_region next.machine ≡ code_region m.machine → IsAbove low (accessed (Some i) m.machine)
     → StepsTo low m next
@@ -87,11 +93,12 @@ steps_by code low m next j w i s how has at small row pc fine does leads region 
 }
 
 code_region-computes : (rd v : ℕ) (s : MachineState) → code_region (computes rd v s) ≡ code_region s
-code_region-computes rd v s = ap (λ ram. code_region (record s { ram = ram })) (ram-with_register rd v (moved_on s))
+code_region-computes zero v s = refl
+code_region-computes (suc rd) v s = refl
 
--- an instruction that sets a register and goes on behind itself
+-- an instruction that sets a register and goes on after itself
 pub step_computes : (code : List ℕ) (low : ℕ) (m : Moment) (j w : ℕ) (i : Ins) (rd v : ℕ)
-    → HasCode code m.machine → slice_get code j ≡ Some w → w < 2 ^ 32 → row_of w ≡ Some i → m.machine.pc ≡ code_base + 4 * j
+    → HasCode code m.machine → slice_get code j ≡ Some w → w < 2 ^ 32 → row_of w ≡ Some i → m.machine.pc ≡ code_base m.machine.layout + 4 * j
     → trap_of i m.machine ≡ None → effect i m.machine (next_answer m) ≡ (computes rd v m.machine, Ran)
     → IsAbove low (accessed (Some i) m.machine)
     → StepsTo low m (record m { machine = computes rd v m.machine })
@@ -100,57 +107,73 @@ step_computes code low m j w i rd v has at small row pc fine does above =
 
 -- ---- words of RAM and of devices
 
-in_ram-true : (a n : ℕ) → code_base ≤ a → a + n ≤ ram_end → in_ram a n ≡ true
-in_ram-true a n from to = grind arith
+in_ram-true : (l : Layout) (a n : ℕ) → ram_base l ≤ a → a + n ≤ ram_end l → in_ram l a n ≡ true
+in_ram-true l a n from to = grind arith
 
-not_below : (a n : ℕ) → n ≤ a → nat_lt a n ≡ false
-not_below a n h = grind arith
+-- what is in the data region or in the stack region touches no code
+apart_from_code : (l : Layout) (code_words a n : ℕ) → code_words ≤ most_words l → data_base ≤ a → a + n ≤ stack_end → meet a n (code_base l) (4 * code_words) ≡ false
+apart_from_code l code_words a n few from to =
+    let r = regions l in
+    let e = r.words in
+    not_below _ _ (elim r.apart [
+      | inl h ↦ omega arith
+      | inr h ↦ omega arith
+    ])
+  where
+    not_below : (x y : ℕ) → y ≤ x → nat_lt x y ≡ false
+    not_below x y h = grind arith
 
-store_trap-none : (code_words a : ℕ) → code_words ≤ 262144 → data_base ≤ a → a + 4 ≤ ram_end → store_trap code_words a 4 ≡ None
-store_trap-none code_words a few from to =
-    let inside = in_ram-true a 4 (omega arith) to in
-    let behind = not_below a (code_base + 4 * code_words) (omega arith) in
-    rw (inside, behind) refl
+store_trap-none : (l : Layout) (code_words a : ℕ) → code_words ≤ most_words l → data_base ≤ a → a + 4 ≤ stack_end → store_trap l code_words a 4 ≡ None
+store_trap-none l code_words a few from to =
+    let r = regions l in
+    let inside = in_ram-true l a 4 (omega (arith, r.data_in)) (omega (arith, r.stack_to)) in
+    let apart = apart_from_code l code_words a 4 few from to in
+    rw (inside, apart) refl
 
-load_trap-none : (a : ℕ) → code_base ≤ a → a + 4 ≤ ram_end → load_trap a 4 ≡ None
-load_trap-none a from to = let inside = in_ram-true a 4 from to in rw inside refl
+load_trap-none : (l : Layout) (a : ℕ) → ram_base l ≤ a → a + 4 ≤ ram_end l → load_trap l a 4 ≡ None
+load_trap-none l a from to = let inside = in_ram-true l a 4 from to in rw inside refl
 
 -- a machine that has put a word into RAM, and goes on
 abbrev pub stored : ℕ → ℕ → MachineState → MachineState
-stored a v s = record (moved_on s) { ram = with_bytes_from s.ram (a - code_base) (low_bytes 4 v) }
+stored a v s = record (moved_on s) { ram = with_bytes_from s.ram (a - ram_base s.layout) (low_bytes 4 v) }
 
 -- a word of RAM
 abbrev pub ram_word : MachineState → ℕ → ℕ
-ram_word s a = number_of (bytes_from s.ram (a - code_base) 4)
+ram_word s a = number_of (bytes_from s.ram (a - ram_base s.layout) 4)
 
--- a word is stored behind the code region, and not below the bound
+-- a word is stored in the data region or in the stack region, and not below the bound
 pub step_stores_word : (code : List ℕ) (low : ℕ) (m : Moment) (j w rs1 rs2 a : ℕ) (imm : ℤ)
-    → HasCode code m.machine → length code ≤ 262144 → slice_get code j ≡ Some w → w < 2 ^ 32 → row_of w ≡ Some (Store Sw rs1 rs2 imm) → m.machine.pc ≡ code_base + 4 * j
-    → address m.machine rs1 imm ≡ a → data_base ≤ a → a + 4 ≤ ram_end → IsAbove low (a, 4)
+    → HasCode code m.machine → length code ≤ most_words m.machine.layout → slice_get code j ≡ Some w → w < 2 ^ 32 → row_of w ≡ Some (Store Sw rs1 rs2 imm) → m.machine.pc ≡ code_base m.machine.layout + 4 * j
+    → address m.machine rs1 imm ≡ a → data_base ≤ a → a + 4 ≤ stack_end → IsAbove low (a, 4)
     → StepsTo low m (record m { machine = stored a (register m.machine rs2) m.machine })
 step_stores_word code low m j w rs1 rs2 a imm has few at small row pc is from to above =
     let s = m.machine in
-    let inside = in_ram-true a 4 (omega arith) to in
+    let l = s.layout in
+    let r = regions l in
+    let inside = in_ram-true l a 4 (omega (arith, r.data_in)) (omega (arith, r.stack_to)) in
     let fine : trap_of (Store Sw rs1 rs2 imm) s ≡ None =
-    ap (λ b. store_trap s.code_words b 4) is ∙ store_trap-none s.code_words a (omega (arith, has.count)) from to in
+    ap (λ b. store_trap l s.code_words b 4) is ∙ store_trap-none l s.code_words a (omega (arith, has.count)) from to in
     let does : effect (Store Sw rs1 rs2 imm) s (next_answer m) ≡ (stored a (register s rs2) s, Ran) =
-    ap (λ b. if in_ram b 4 then (stored b (register s rs2) s, Ran) else (moved_on s, Wrote b (register s rs2))) is
+    ap (λ b. if in_ram s.layout b 4 then (stored b (register s rs2) s, Ran) else (moved_on s, Wrote b (register s rs2))) is
     ∙ ap (λ t. if t then (stored a (register s rs2) s, Ran) else (moved_on s, Wrote a (register s rs2))) inside in
     steps_by code low m _ j w (Store Sw rs1 rs2 imm) (stored a (register s rs2) s) Ran has at small row pc fine does refl
-    (take-with_bytes_from (low_bytes 4 (register s rs2)) s.ram 1048576 (a - code_base) (omega arith))
+    (take_drop-with_bytes_from (low_bytes 4 (register s rs2)) s.ram (code_end l - code_base l) (code_place l) (a - ram_base l) (elim r.apart [
+      | inl h ↦ inr (omega (arith, r.code_in, r.data_in))
+      | inr h ↦ inl (omega (arith, r.code_in, r.data_in))
+    ]))
     (subst (λ b. IsAbove low (b, 4)) (sym is) above)
 
 -- a word is loaded from RAM, and not from below the bound
 pub step_loads_word : (code : List ℕ) (low : ℕ) (m : Moment) (j w rd rs1 a : ℕ) (imm : ℤ)
-    → HasCode code m.machine → slice_get code j ≡ Some w → w < 2 ^ 32 → row_of w ≡ Some (Load Lw rd rs1 imm) → m.machine.pc ≡ code_base + 4 * j
-    → address m.machine rs1 imm ≡ a → code_base ≤ a → a + 4 ≤ ram_end → IsAbove low (a, 4)
+    → HasCode code m.machine → slice_get code j ≡ Some w → w < 2 ^ 32 → row_of w ≡ Some (Load Lw rd rs1 imm) → m.machine.pc ≡ code_base m.machine.layout + 4 * j
+    → address m.machine rs1 imm ≡ a → ram_base m.machine.layout ≤ a → a + 4 ≤ ram_end m.machine.layout → IsAbove low (a, 4)
     → StepsTo low m (record m { machine = computes rd (ram_word m.machine a) m.machine })
 step_loads_word code low m j w rd rs1 a imm has at small row pc is from to above =
     let s = m.machine in
-    let inside = in_ram-true a 4 from to in
-    let fine : trap_of (Load Lw rd rs1 imm) s ≡ None = ap (λ b. load_trap b 4) is ∙ load_trap-none a from to in
+    let inside = in_ram-true s.layout a 4 from to in
+    let fine : trap_of (Load Lw rd rs1 imm) s ≡ None = ap (λ b. load_trap s.layout b 4) is ∙ load_trap-none s.layout a from to in
     let does : effect (Load Lw rd rs1 imm) s (next_answer m) ≡ (computes rd (ram_word s a) s, Ran) =
-    ap (λ b. if in_ram b 4 then (computes rd (ram_word s b) s, Ran) else device_read rd b s (next_answer m)) is
+    ap (λ b. if in_ram s.layout b 4 then (computes rd (ram_word s b) s, Ran) else device_read rd b s (next_answer m)) is
     ∙ ap (λ t. if t then (computes rd (ram_word s a) s, Ran) else device_read rd a s (next_answer m)) inside in
     step_computes code low m j w (Load Lw rd rs1 imm) rd (ram_word s a) has at small row pc fine does
     (subst (λ b. IsAbove low (b, 4)) (sym is) above)
@@ -164,33 +187,33 @@ and_parts false y h = (h, cc)
 window_below : (a : ℕ) → in_device_window a ≡ true → a < 0x10025000
 window_below a h = grind (arith, nat_tests)
 
-before_ram : (a : ℕ) → a < 0x10025000 → in_ram a 4 ≡ false
-before_ram a h = grind arith
+before_ram : (l : Layout) (a : ℕ) → a < 0x10025000 → in_ram l a 4 ≡ false
+before_ram l a h = let above = (regions l).above in grind arith
 
-device_word_parts : (a : ℕ) → is_device_word a ≡ true → (a % 4 ≡ 0) × (in_device_window a ≡ true) × (in_ram a 4 ≡ false)
-device_word_parts a h =
+device_word_parts : (l : Layout) (a : ℕ) → is_device_word a ≡ true → (a % 4 ≡ 0) × (in_device_window a ≡ true) × (in_ram l a 4 ≡ false)
+device_word_parts l a h =
     let parts = and_parts (a % 4 == 0) (in_device_window a) h in
-    (eqb-true (a % 4) 0 parts.0, parts.1, before_ram a (window_below a parts.1))
+    (eqb-true (a % 4) 0 parts.0, parts.1, before_ram l a (window_below a parts.1))
 
 -- a device word is below RAM
 above_devices : (low a : ℕ) → is_device_word a ≡ true → IsAbove low (a, 4)
 above_devices low a h b from to in_stack =
-    let below = window_below a (device_word_parts a h).1 in absurd (omega arith)
+    let below = window_below a (and_parts (a % 4 == 0) (in_device_window a) h).1 in absurd (omega arith)
 
 -- a word is written to a device
 pub step_writes_word : (code : List ℕ) (low : ℕ) (m : Moment) (j w rs1 rs2 a : ℕ) (imm : ℤ)
-    → HasCode code m.machine → slice_get code j ≡ Some w → w < 2 ^ 32 → row_of w ≡ Some (Store Sw rs1 rs2 imm) → m.machine.pc ≡ code_base + 4 * j
+    → HasCode code m.machine → slice_get code j ≡ Some w → w < 2 ^ 32 → row_of w ≡ Some (Store Sw rs1 rs2 imm) → m.machine.pc ≡ code_base m.machine.layout + 4 * j
     → address m.machine rs1 imm ≡ a → is_device_word a ≡ true
     → StepsTo low m (record m { machine = moved_on m.machine; trace = m.trace ++ event.Write a (register m.machine rs2) ∷ [] })
 step_writes_word code low m j w rs1 rs2 a imm has at small row pc is device =
     let s = m.machine in
-    let parts = device_word_parts a device in
-    let fine : trap_of (Store Sw rs1 rs2 imm) s ≡ None = ap (λ b. store_trap s.code_words b 4) is ∙ (
+    let parts = device_word_parts s.layout a device in
+    let fine : trap_of (Store Sw rs1 rs2 imm) s ≡ None = ap (λ b. store_trap s.layout s.code_words b 4) is ∙ (
     let even : (a % 4 == 0) ≡ true = grind (arith, parts.0) in
     let window = parts.1 in let outside = parts.2 in
     rw (outside, window, even) refl) in
     let does : effect (Store Sw rs1 rs2 imm) s (next_answer m) ≡ (moved_on s, Wrote a (register s rs2)) =
-    ap (λ b. if in_ram b 4 then (stored b (register s rs2) s, Ran) else (moved_on s, Wrote b (register s rs2))) is
+    ap (λ b. if in_ram s.layout b 4 then (stored b (register s rs2) s, Ran) else (moved_on s, Wrote b (register s rs2))) is
     ∙ ap (λ t. if t then (stored a (register s rs2) s, Ran) else (moved_on s, Wrote a (register s rs2))) (parts.2) in
     steps_by code low m _ j w (Store Sw rs1 rs2 imm) (moved_on s) (Wrote a (register s rs2)) has at small row pc fine does refl refl
     (subst (λ b. IsAbove low (b, 4)) (sym is) (above_devices low a device))
@@ -212,7 +235,7 @@ HasAt-back code j (w ∷ ws) vs has =
     let same : j + 1 + length ws ≡ j + suc (length ws) = omega arith in
     subst (λ i. HasAt code i vs) same (HasAt-back code (j + 1) ws vs has.1)
 
--- a list stands in itself, behind whatever is in front of it
+-- a list stands in itself, after whatever is in front of it
 pub HasAt-whole : (front ws : List ℕ) → HasAt (front ++ ws) (length front) ws
 HasAt-whole front [] = tt
 HasAt-whole front (w ∷ ws) =
@@ -225,9 +248,12 @@ HasAt-whole front (w ∷ ws) =
     slice_get-seam (x ∷ front) w ws = slice_get-seam front w ws
 
 -- code that RAM keeps is the machine's code still
-pub HasCode-same : (code : List ℕ) (s s' : MachineState) → HasCode code s → s'.code_words ≡ s.code_words → ((p : ℕ) → p < 4 * length code → slice_index s'.ram p ≡ slice_index s.ram p) → HasCode code s'
-HasCode-same code s s' has count same = record { count = count ∙ has.count; bytes = λ i h. same i h ∙ has.bytes i h }
+pub HasCode-same : (code : List ℕ) (s s' : MachineState) → HasCode code s → s'.layout ≡ s.layout → s'.code_words ≡ s.code_words → ((p : ℕ) → p < 4 * length code → slice_index s'.ram (code_place s.layout + p) ≡ slice_index s.ram (code_place s.layout + p)) → HasCode code s'
+HasCode-same code s s' has where_it_stands count same = record {
+  count = count ∙ has.count;
+  bytes = λ i h. ap (λ l. slice_index s'.ram (code_place l + i)) where_it_stands ∙ same i h ∙ has.bytes i h;
+}
 
 pub HasCode-computes : (code : List ℕ) (s : MachineState) (rd v : ℕ) → HasCode code s → HasCode code (computes rd v s)
 HasCode-computes code s rd v has =
-    HasCode-same code s (computes rd v s) has (code_words-with_register rd v (moved_on s)) (λ p h. ap (λ ram. slice_index ram p) (ram-with_register rd v (moved_on s)))
+    HasCode-same code s (computes rd v s) has (layout-with_register rd v (moved_on s)) (code_words-with_register rd v (moved_on s)) (λ p h. ap (λ ram. slice_index ram (code_place s.layout + p)) (ram-with_register rd v (moved_on s)))

@@ -1,8 +1,9 @@
 -- Machines stay machines: what instructions compute are words.
-use Rattle.std.proofs.Common.{◌≡◌, ℕ, zero, suc, ◌+◌, ◌-◌, ◌*◌, ◌/◌, ◌%◌, ◌^◌, ◌<◌, List, [], ◌∷◌, Option, Some, None, Bool, true, false, ◌∙◌, arith}
+use Rattle.std.proofs.Common.{◌≡◌, ℕ, zero, suc, ◌+◌, ◌-◌, ◌*◌, ◌/◌, ◌%◌, ◌^◌, ◌<◌, List, [], ◌∷◌, Option, Some, None, Bool, true, false, refl, ◌∙◌, arith}
 use Rattle.std.specs.Prelude.{if◌then◌else◌, ℤ, pos, negsuc, ◌==◌, int_div, int_rem, IfSome, slice_index, slice_set}
 use Rattle.std.specs.List.{AllByRecursion}
 use Rattle.std.specs.Int.Bits.{and_lt, or_lt, xor_lt}
+use Rattle.std.proofs.lemmas.Bool.{eqb-true}
 use Rattle.std.proofs.lemmas.Bool.Decides.{nat_tests}
 use Rattle.std.proofs.lemmas.Grind.{common_steps}
 use Rattle.br_bytes.specs.Number.{number_of, low_bytes}
@@ -23,10 +24,11 @@ use Rattle.br_rv32im.specs.Encoding.{Fits}
 use Rattle.br_rv32im.specs.Row.{row_of}
 use Rattle.br_machine.specs.declared.stepped.Stepped.{Stepped}
 use Rattle.br_machine.specs.declared.stepped.Stepped.TheVariants.{Ran, Wrote}
-use Rattle.br_machine.specs.Layout.{code_base}
+use Rattle.br_machine.specs.declared.stepped.Trap.TheVariants.{FetchMisaligned}
+use Rattle.br_words.specs.Layout.{ram_base}
 use Rattle.br_machine.specs.State.{MachineState, IsMachine, bytes_from, register, with_register, with_bytes_from}
 use Rattle.br_machine.specs.Arithmetic.{plus, reg_value, imm_value, shift_value, is_taken}
-use Rattle.br_machine.specs.Traps.{in_ram, load_size, store_size, address, jalr_target}
+use Rattle.br_machine.specs.Traps.{in_ram, load_size, store_size, address, jalr_target, jump_trap, trap_of}
 use Rattle.br_machine.specs.Effects.{effect, computes, jumps, moved_on, at_pc, next_pc, loaded, device_read}
 use Rattle.br_machine.specs.Step.{step, fetched}
 use Rattle.br_machine.proofs.Ram.{length-with_bytes_from}
@@ -77,7 +79,7 @@ loaded_below Lbu s p is = let b = byte_below s p is in omega arith
 loaded_below Lhu s p is = let b = byte_below s p is in let c = byte_below s (p + 1) is in omega arith
 
 pub fetched_below : (s : MachineState) → IsMachine s → fetched s < 2 ^ 32
-fetched_below s is = loaded_below Lw s (s.pc - code_base) is
+fetched_below s is = loaded_below Lw s (s.pc - ram_base s.layout) is
 
 -- ---- what instructions compute
 
@@ -132,74 +134,88 @@ shift_below Srai a n p = wrapped_below _
 
 -- ---- the machine after an effect
 
-after_register : (rd v pc : ℕ) (s : MachineState) → IsMachine s → v < 2 ^ 32 → pc < 2 ^ 32 → IsMachine (with_register rd v (at_pc pc s))
-after_register zero v pc s is small low = record { registers = is.registers; words = is.words; pc = low; ram = is.ram; bytes = is.bytes; code = is.code }
-after_register (suc rd) v pc s is small low = record {
+after_register : (rd v pc : ℕ) (s : MachineState) → IsMachine s → v < 2 ^ 32 → pc < 2 ^ 32 → pc % 4 ≡ 0 → IsMachine (with_register rd v (at_pc pc s))
+after_register zero v pc s is small low even = record { registers = is.registers; words = is.words; pc = low; aligned = even; ram = is.ram; bytes = is.bytes; code = is.code }
+after_register (suc rd) v pc s is small low even = record {
   registers = length-with_register (suc rd) v s ∙ is.registers;
   words = all_below-set (2 ^ 32) s.registers (suc rd) v is.words small;
   pc = low;
+  aligned = even;
   ram = is.ram;
   bytes = is.bytes;
   code = is.code;
 }
 
+next_aligned : (s : MachineState) → IsMachine s → next_pc s % 4 ≡ 0
+next_aligned s is = omega (arith, is.aligned)
+
+-- a jump that breaks no rule leads to a multiple of 4
+jump_aligned : (target : ℕ) → jump_trap target ≡ None → target % 4 ≡ 0
+jump_aligned target fine = tested (target % 4 == 0) refl fine
+  where
+    tested : (b : Bool) → (target % 4 == 0) ≡ b → (if b then None else Some FetchMisaligned) ≡ None → target % 4 ≡ 0
+    tested true is e = eqb-true (target % 4) 0 is
+    tested false is e = absurd (cc)
+
 computed : (rd v : ℕ) (s : MachineState) → IsMachine s → v < 2 ^ 32 → IsMachine (computes rd v s)
-computed rd v s is small = after_register rd v (next_pc s) s is small (omega arith)
+computed rd v s is small = after_register rd v (next_pc s) s is small (omega arith) (next_aligned s is)
 
-jumped : (rd target : ℕ) (s : MachineState) → IsMachine s → target < 2 ^ 32 → IsMachine (jumps rd target s)
-jumped rd target s is low = after_register rd (next_pc s) target s is (omega arith) low
+jumped : (rd target : ℕ) (s : MachineState) → IsMachine s → target < 2 ^ 32 → jump_trap target ≡ None → IsMachine (jumps rd target s)
+jumped rd target s is low fine = after_register rd (next_pc s) target s is (omega arith) low (jump_aligned target fine)
 
-moved : (pc : ℕ) (s : MachineState) → IsMachine s → pc < 2 ^ 32 → IsMachine (at_pc pc s)
-moved pc s is low = after_register 0 0 pc s is (omega arith) low
+moved : (s : MachineState) → IsMachine s → IsMachine (moved_on s)
+moved s is = after_register 0 0 (next_pc s) s is (omega arith) (omega arith) (next_aligned s is)
 
 read : (rd a : ℕ) (s : MachineState) (next : Option ℕ) → IsMachine s → IfSome next IsWord → IsMachine (device_read rd a s next).0
 read rd a s (Some v) is word = computed rd v s is word
 read rd a s None is word = is
 
 stored : (a v : ℕ) (o : StoreOp) (s : MachineState) → IsMachine s
-    → IsMachine (record (moved_on s) { ram = with_bytes_from s.ram (a - code_base) (low_bytes (store_size o) v) })
+    → IsMachine (record (moved_on s) { ram = with_bytes_from s.ram (a - ram_base s.layout) (low_bytes (store_size o) v) })
 stored a v o s is = record {
   registers = is.registers;
   words = is.words;
   pc = omega arith;
-  ram = length-with_bytes_from (low_bytes (store_size o) v) s.ram (a - code_base) ∙ is.ram;
-  bytes = all_below-with_bytes_from (low_bytes (store_size o) v) s.ram (a - code_base) (all_below-low_bytes (store_size o) v) is.bytes;
+  aligned = next_aligned s is;
+  ram = length-with_bytes_from (low_bytes (store_size o) v) s.ram (a - ram_base s.layout) ∙ is.ram;
+  bytes = all_below-with_bytes_from (low_bytes (store_size o) v) s.ram (a - ram_base s.layout) (all_below-low_bytes (store_size o) v) is.bytes;
   code = is.code;
 }
 
-branched : (b : Bool) (target : ℕ) (s : MachineState) → IsMachine s → target < 2 ^ 32 → IsMachine (at_pc (if b then target else next_pc s) s)
-branched true target s is low = moved target s is low
-branched false target s is low = moved (next_pc s) s is (omega arith)
+branched : (b : Bool) (target : ℕ) (s : MachineState) → IsMachine s → target < 2 ^ 32 → (if b then jump_trap target else None) ≡ None
+    → IsMachine (at_pc (if b then target else next_pc s) s)
+branched true target s is low fine = after_register 0 0 target s is (omega arith) low (jump_aligned target fine)
+branched false target s is low fine = moved s is
 
-made : (i : Ins) (s : MachineState) (next : Option ℕ) → Fits i → IsMachine s → IfSome next IsWord → IsMachine (effect i s next).0
-made (Upper Lui rd field) s next fits is word = computed rd (field * 4096) s is (omega (arith, fits.1))
-made (Upper Auipc rd field) s next fits is word = computed rd ((s.pc + field * 4096) % 2 ^ 32) s is (omega arith)
-made (Jal rd imm) s next fits is word = jumped rd (plus s.pc imm) s is (omega arith)
-made (Jalr rd rs1 imm) s next fits is word = jumped rd (jalr_target s rs1 imm) s is (omega arith)
-made (Branch op rs1 rs2 imm) s next fits is word =
-    branched (is_taken op (register s rs1) (register s rs2)) (plus s.pc imm) s is (omega arith)
-made (Load op rd rs1 imm) s next fits is word =
+made : (i : Ins) (s : MachineState) (next : Option ℕ) → trap_of i s ≡ None → Fits i → IsMachine s → IfSome next IsWord → IsMachine (effect i s next).0
+made (Upper Lui rd field) s next fine fits is word = computed rd (field * 4096) s is (omega (arith, fits.1))
+made (Upper Auipc rd field) s next fine fits is word = computed rd ((s.pc + field * 4096) % 2 ^ 32) s is (omega arith)
+made (Jal rd imm) s next fine fits is word = jumped rd (plus s.pc imm) s is (omega arith) fine
+made (Jalr rd rs1 imm) s next fine fits is word = jumped rd (jalr_target s rs1 imm) s is (omega arith) fine
+made (Branch op rs1 rs2 imm) s next fine fits is word =
+    branched (is_taken op (register s rs1) (register s rs2)) (plus s.pc imm) s is (omega arith) fine
+made (Load op rd rs1 imm) s next fine fits is word =
     let a = address s rs1 imm in
-    by_test (λ (p : MachineState × Stepped). IsMachine p.0) (in_ram a (load_size op)) (computes rd (loaded op (number_of (bytes_from s.ram (a - code_base) (load_size op)))) s, Ran) (device_read rd a s next)
-    (λ inside. computed rd (loaded op (number_of (bytes_from s.ram (a - code_base) (load_size op)))) s is (loaded_below op s (a - code_base) is))
+    by_test (λ (p : MachineState × Stepped). IsMachine p.0) (in_ram s.layout a (load_size op)) (computes rd (loaded op (number_of (bytes_from s.ram (a - ram_base s.layout) (load_size op)))) s, Ran) (device_read rd a s next)
+    (λ inside. computed rd (loaded op (number_of (bytes_from s.ram (a - ram_base s.layout) (load_size op)))) s is (loaded_below op s (a - ram_base s.layout) is))
     (λ outside. read rd a s next is word)
-made (Store op rs1 rs2 imm) s next fits is word =
+made (Store op rs1 rs2 imm) s next fine fits is word =
     let a = address s rs1 imm in
     let v = register s rs2 in
-    by_test (λ (p : MachineState × Stepped). IsMachine p.0) (in_ram a (store_size op)) (record (moved_on s) { ram = with_bytes_from s.ram (a - code_base) (low_bytes (store_size op) v) }, Ran) (moved_on s, Wrote a v)
+    by_test (λ (p : MachineState × Stepped). IsMachine p.0) (in_ram s.layout a (store_size op)) (record (moved_on s) { ram = with_bytes_from s.ram (a - ram_base s.layout) (low_bytes (store_size op) v) }, Ran) (moved_on s, Wrote a v)
     (λ inside. stored a v op s is)
-    (λ outside. moved (next_pc s) s is (omega arith))
-made (Imm op rd rs1 imm) s next fits is word =
+    (λ outside. moved s is)
+made (Imm op rd rs1 imm) s next fine fits is word =
     computed rd (imm_value op (register s rs1) (wrapped imm)) s is (imm_below op (register s rs1) (wrapped imm) (register_below s rs1 is) (wrapped_below imm))
-made (Shift op rd rs1 amount) s next fits is word =
+made (Shift op rd rs1 amount) s next fine fits is word =
     computed rd (shift_value op (register s rs1) amount) s is (shift_below op (register s rs1) amount (register_below s rs1 is))
-made (Reg op rd rs1 rs2) s next fits is word =
+made (Reg op rd rs1 rs2) s next fine fits is word =
     computed rd (reg_value op (register s rs1) (register s rs2)) s is (reg_below op (register s rs1) (register s rs2) (register_below s rs1 is) (register_below s rs2 is))
-made Ecall s next fits is word = is
+made Ecall s next fine fits is word = is
 
 -- a step makes a machine, where words are instructions whose fields are in range
 pub IsMachine-step : ((w : ℕ) (i : Ins) → IsWord w → row_of w ≡ Some i → Fits i)
     → (s : MachineState) (next : Option ℕ) → IsMachine s → IfSome next IsWord → IsMachine (step s next).0
 IsMachine-step in_range s next is word =
     by_step (λ (p : MachineState × Stepped). IsMachine p.0) s next (λ t. is)
-    (λ i row fine. made i s next (in_range (fetched s) i (fetched_below s is) row) is word)
+    (λ i row fine. made i s next fine (in_range (fetched s) i (fetched_below s is) row) is word)

@@ -2,6 +2,7 @@
 -- manual, chapters 2.4 to 2.6 and the M extension).
 use Rattle.std.specs.Prelude.{ℕ, ◌+◌, ◌-◌, ◌*◌, ◌%◌, ◌^◌, if◌then◌else◌, Option, Some, None}
 use Rattle.br_words.specs.Words.{wrapped}
+use Rattle.br_words.specs.Layout.{ram_base}
 use Rattle.br_words.specs.Bits.{sign_extended}
 use Rattle.br_bytes.specs.Number.{number_of, low_bytes}
 use Rattle.br_rv32im.specs.declared.instruction.Ins.{Ins}
@@ -11,7 +12,6 @@ use Rattle.br_rv32im.specs.declared.instruction.LoadOp.{LoadOp}
 use Rattle.br_rv32im.specs.declared.instruction.LoadOp.TheVariants.{Lb, Lh, Lw, Lbu, Lhu}
 use Rattle.br_machine.specs.declared.stepped.Stepped.{Stepped}
 use Rattle.br_machine.specs.declared.stepped.Stepped.TheVariants.{Ran, Read, Wrote, Waiting, Halted}
-use Rattle.br_machine.specs.Layout.{code_base}
 use Rattle.br_machine.specs.State.{MachineState, register, with_register, bytes_from, with_bytes_from}
 use Rattle.br_machine.specs.Arithmetic.{plus, reg_value, imm_value, shift_value, is_taken}
 use Rattle.br_machine.specs.Traps.{load_size, store_size, address, jalr_target, in_ram}
@@ -19,19 +19,19 @@ use Rattle.br_machine.specs.Traps.{load_size, store_size, address, jalr_target, 
 abbrev pub at_pc : ℕ → MachineState → MachineState
 at_pc a s = record s { pc = a }
 
--- the address of the instruction behind this one
+-- the address of the instruction after this one
 abbrev pub next_pc : MachineState → ℕ
 next_pc s = (s.pc + 4) % 2 ^ 32
 
--- goes on behind this instruction
+-- goes on after this instruction
 abbrev pub moved_on : MachineState → MachineState
 moved_on s = at_pc (next_pc s) s
 
--- a register takes a value, and the machine goes on behind this instruction
+-- a register takes a value, and the machine goes on after this instruction
 abbrev pub computes : ℕ → ℕ → MachineState → MachineState
 computes rd v s = with_register rd v (moved_on s)
 
--- a register takes the address behind this instruction, and the machine goes on at another
+-- a register takes the address after this instruction, and the machine goes on at another
 abbrev pub jumps : ℕ → ℕ → MachineState → MachineState
 jumps rd target s = with_register rd (next_pc s) (at_pc target s)
 
@@ -59,15 +59,15 @@ effect (Branch op rs1 rs2 imm) s next =
 effect (Load op rd rs1 imm) s next =
     let a = address s rs1 imm
     in let n = load_size op
-    in if in_ram a n
-    then (computes rd (loaded op (number_of (bytes_from s.ram (a - code_base) n))) s, Ran)
+    in if in_ram s.layout a n
+    then (computes rd (loaded op (number_of (bytes_from s.ram (a - ram_base s.layout) n))) s, Ran)
     else device_read rd a s next
 effect (Store op rs1 rs2 imm) s next =
     let a = address s rs1 imm
     in let n = store_size op
     in let v = register s rs2
-    in if in_ram a n
-    then (record (moved_on s) { ram = with_bytes_from s.ram (a - code_base) (low_bytes n v) }, Ran)
+    in if in_ram s.layout a n
+    then (record (moved_on s) { ram = with_bytes_from s.ram (a - ram_base s.layout) (low_bytes n v) }, Ran)
     else (moved_on s, Wrote a v)
 effect (Imm op rd rs1 imm) s next = (computes rd (imm_value op (register s rs1) (wrapped imm)) s, Ran)
 effect (Shift op rd rs1 amount) s next = (computes rd (shift_value op (register s rs1) amount) s, Ran)

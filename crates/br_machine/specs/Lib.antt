@@ -1,4 +1,3 @@
-pub mod Layout
 pub mod State
 pub mod Arithmetic
 pub mod Traps

@@ -8,7 +8,7 @@ use Rattle.br_machine.specs.declared.stepped.Stepped.TheVariants.{Ran, Read, Wro
 use Rattle.br_machine.specs.State.{MachineState}
 use Rattle.br_machine.specs.Steps.{Moment, moment_after, next_step, after_steps}
 
--- a machine that has taken none of these answers yet, behind these events
+-- a machine that has taken none of these answers yet, after these events
 abbrev pub at_start : MachineState → List ℕ → List Event → Moment
 at_start s answers events = record { machine = s; answers = answers; trace = events }
 

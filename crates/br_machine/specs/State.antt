@@ -1,26 +1,39 @@
 -- The machine at a moment.
-use Rattle.std.specs.Prelude.{◌≡◌, ℕ, zero, suc, ◌+◌, ◌-◌, ◌*◌, ◌^◌, ◌<◌, ◌≤◌, List, [], ◌∷◌, length, slice_index, slice_set}
+use Rattle.std.specs.Prelude.{◌≡◌, ℕ, zero, suc, ◌+◌, ◌-◌, ◌*◌, ◌%◌, ◌^◌, ◌<◌, ◌≤◌, List, [], ◌∷◌, length, slice_index, slice_set}
 use Rattle.std.specs.List.{AllByRecursion}
-use Rattle.br_machine.specs.Layout.{code_base}
+use Rattle.br_words.specs.declared.layout.Layout.{Layout}
+use Rattle.br_words.specs.Layout.{code_base, ram_base, ram_end, most_words}
 
 pub record MachineState : Type 0 where
+  -- where its code and its RAM stand
+  pub layout : Layout
   -- the 32 registers, x0 first
   pub registers : List ℕ
   -- the address of the next instruction
   pub pc : ℕ
   -- the bytes of RAM, the lowest address first
   pub ram : List ℕ
-  -- how many words of code stand at RAM's low end
+  -- how many words of code stand at the low end of the code region
   pub code_words : ℕ
 
--- what holds of every machine: sizes, and that registers and pc are words and RAM is of bytes
+-- how many bytes RAM has
+abbrev pub ram_size : Layout → ℕ
+ram_size l = ram_end l - ram_base l
+
+-- where the code region begins in RAM, counted from RAM's low end
+abbrev pub code_place : Layout → ℕ
+code_place l = code_base l - ram_base l
+
+-- What holds of every machine: sizes, that registers and pc are words and RAM is of bytes, and that pc
+-- is a multiple of 4.
 pub record IsMachine (s : MachineState) : Type 0 where
   pub registers : length s.registers ≡ 32
   pub words : AllByRecursion (λ v. v < 2 ^ 32) s.registers
   pub pc : s.pc < 2 ^ 32
-  pub ram : length s.ram ≡ 3145728
+  pub aligned : s.pc % 4 ≡ 0
+  pub ram : length s.ram ≡ ram_size s.layout
   pub bytes : AllByRecursion (λ b. b < 256) s.ram
-  pub code : s.code_words ≤ 262144
+  pub code : s.code_words ≤ most_words s.layout
 
 -- what a register reads as: x0 reads 0 (RISC-V unprivileged manual, chapter 2.1)
 abbrev pub register : MachineState → ℕ → ℕ
@@ -44,4 +57,4 @@ with_bytes_from ram place (b ∷ bs) = with_bytes_from (slice_set ram place b) (
 
 -- the byte at an address of RAM
 abbrev pub byte_of : MachineState → ℕ → ℕ
-byte_of s a = slice_index s.ram (a - code_base)
+byte_of s a = slice_index s.ram (a - ram_base s.layout)

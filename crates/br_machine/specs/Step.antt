@@ -7,18 +7,18 @@ use Rattle.br_machine.specs.declared.stepped.Stepped.{Stepped}
 use Rattle.br_machine.specs.declared.stepped.Stepped.TheVariants.{Trapped}
 use Rattle.br_machine.specs.declared.stepped.Trap.{Trap}
 use Rattle.br_machine.specs.declared.stepped.Trap.TheVariants.{FetchOutside, Illegal}
-use Rattle.br_machine.specs.Layout.{code_base}
+use Rattle.br_words.specs.Layout.{code_base, ram_base}
 use Rattle.br_machine.specs.State.{MachineState, bytes_from}
 use Rattle.br_machine.specs.Traps.{trap_of}
 use Rattle.br_machine.specs.Effects.{effect}
 
 -- pc is the address of a byte of the code
 abbrev pub is_in_code : MachineState → Bool
-is_in_code s = nat_le code_base s.pc && nat_lt s.pc (code_base + 4 * s.code_words)
+is_in_code s = nat_le (code_base s.layout) s.pc && nat_lt s.pc (code_base s.layout + 4 * s.code_words)
 
 -- the word at pc
 abbrev pub fetched : MachineState → ℕ
-fetched s = number_of (bytes_from s.ram (s.pc - code_base) 4)
+fetched s = number_of (bytes_from s.ram (s.pc - ram_base s.layout) 4)
 
 -- a broken rule changes nothing
 abbrev pub trapped : Trap → MachineState → MachineState × Stepped

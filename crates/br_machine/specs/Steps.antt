@@ -1,5 +1,5 @@
 -- Many steps, with the answers of devices taken in turn and the events in order.
-use Rattle.std.specs.Prelude.{◌≡◌, ℕ, zero, suc, ◌+◌, ◌<◌, ◌≤◌, List, [], ◌∷◌, ◌++◌, Option, Some, None, take, drop, slice_get}
+use Rattle.std.specs.Prelude.{◌≡◌, ℕ, zero, suc, ◌+◌, ◌-◌, ◌<◌, ◌≤◌, List, [], ◌∷◌, ◌++◌, Option, Some, None, take, drop, slice_get}
 use Rattle.br_bytes.specs.declared.run.Event.{Event}
 use Rattle.br_bytes.specs.declared.run.Event.TheVariants as event
 use Rattle.br_rv32im.specs.declared.instruction.Ins.{Ins}
@@ -7,8 +7,8 @@ use Rattle.br_rv32im.specs.declared.instruction.Ins.TheVariants.{Upper, Jal, Jal
 use Rattle.br_rv32im.specs.Row.{row_of}
 use Rattle.br_machine.specs.declared.stepped.Stepped.{Stepped}
 use Rattle.br_machine.specs.declared.stepped.Stepped.TheVariants.{Ran, Read, Wrote, Waiting, Halted, Trapped}
-use Rattle.br_machine.specs.Layout.{stack_base}
-use Rattle.br_machine.specs.State.{MachineState}
+use Rattle.br_words.specs.Layout.{code_base, code_end, stack_base}
+use Rattle.br_machine.specs.State.{MachineState, code_place}
 use Rattle.br_machine.specs.Traps.{load_size, store_size, address}
 use Rattle.br_machine.specs.Step.{step, fetched}
 
@@ -46,9 +46,11 @@ after_steps (suc n) m = onward m (moment_after m (next_step m)) (after_steps n)
 
 -- ---- what a step may not do
 
--- the bytes of the code region, the code's own and those behind it
+-- the bytes of the code region, the code's own and those after it
 abbrev pub code_region : MachineState → List ℕ
-code_region s = take 1048576 s.ram
+code_region s =
+    let l = s.layout
+    in take (code_end l - code_base l) (drop (code_place l) s.ram)
 
 -- the first address that an instruction loads or stores, and how many bytes from there on
 abbrev pub accessed : Option Ins → MachineState → ℕ × ℕ

@@ -1,7 +1,9 @@
 -- Which rules an instruction would break at a moment. A word that is no instruction and a pc outside
 -- the code are tested before.
-use Rattle.std.specs.Prelude.{ℕ, ◌+◌, ◌*◌, ◌/◌, ◌%◌, Bool, ◌&&◌, nat_lt, nat_le, ◌==◌, if◌then◌else◌, ℤ, Option, Some, None}
+use Rattle.std.specs.Prelude.{ℕ, ◌+◌, ◌*◌, ◌/◌, ◌%◌, Bool, ◌&&◌, nat_lt, nat_le, min, max, ◌==◌, if◌then◌else◌, ℤ, Option, Some, None}
 use Rattle.br_words.specs.Device.{in_device_window}
+use Rattle.br_words.specs.declared.layout.Layout.{Layout}
+use Rattle.br_words.specs.Layout.{code_base, ram_base, ram_end}
 use Rattle.br_rv32im.specs.declared.instruction.Ins.{Ins}
 use Rattle.br_rv32im.specs.declared.instruction.Ins.TheVariants.{Upper, Jal, Jalr, Branch, Load, Store, Imm, Shift, Reg, Ecall}
 use Rattle.br_rv32im.specs.declared.instruction.LoadOp.{LoadOp}
@@ -10,7 +12,6 @@ use Rattle.br_rv32im.specs.declared.instruction.StoreOp.{StoreOp}
 use Rattle.br_rv32im.specs.declared.instruction.StoreOp.TheVariants.{Sb, Sh, Sw}
 use Rattle.br_machine.specs.declared.stepped.Trap.{Trap}
 use Rattle.br_machine.specs.declared.stepped.Trap.TheVariants.{FetchMisaligned, CodeWrite, DeviceAccess, AccessOutside}
-use Rattle.br_machine.specs.Layout.{code_base, ram_end}
 use Rattle.br_machine.specs.State.{MachineState, register}
 use Rattle.br_machine.specs.Arithmetic.{plus, is_taken}
 
@@ -37,8 +38,12 @@ abbrev pub jalr_target : MachineState → ℕ → ℤ → ℕ
 jalr_target s base imm = address s base imm / 2 * 2
 
 -- n bytes from `a` on are in RAM
-abbrev pub in_ram : ℕ → ℕ → Bool
-in_ram a n = nat_le code_base a && nat_le (a + n) ram_end
+abbrev pub in_ram : Layout → ℕ → ℕ → Bool
+in_ram l a n = nat_le (ram_base l) a && nat_le (a + n) (ram_end l)
+
+-- n bytes from `a` on and k bytes from `b` on have one in common
+abbrev pub meet : ℕ → ℕ → ℕ → ℕ → Bool
+meet a n b k = nat_lt (max a b) (min (a + n) (b + k))
 
 -- a jump to a target that is no multiple of 4
 abbrev pub jump_trap : ℕ → Option Trap
@@ -51,14 +56,14 @@ device_trap a n =
     then (if (n == 4) && (a % 4 == 0) then None else Some DeviceAccess)
     else Some AccessOutside
 
-abbrev pub load_trap : ℕ → ℕ → Option Trap
-load_trap a n = if in_ram a n then None else device_trap a n
+abbrev pub load_trap : Layout → ℕ → ℕ → Option Trap
+load_trap l a n = if in_ram l a n then None else device_trap a n
 
--- a store in RAM may touch no byte of the code, which is at RAM's low end
-abbrev pub store_trap : ℕ → ℕ → ℕ → Option Trap
-store_trap code_words a n =
-    if in_ram a n
-    then (if nat_lt a (code_base + 4 * code_words) then Some CodeWrite else None)
+-- a store in RAM may touch no byte of the code
+abbrev pub store_trap : Layout → ℕ → ℕ → ℕ → Option Trap
+store_trap l code_words a n =
+    if in_ram l a n
+    then (if meet a n (code_base l) (4 * code_words) then Some CodeWrite else None)
     else device_trap a n
 
 -- the rule that an instruction breaks, or None
@@ -67,8 +72,8 @@ trap_of (Jal rd imm) s = jump_trap (plus s.pc imm)
 trap_of (Jalr rd rs1 imm) s = jump_trap (jalr_target s rs1 imm)
 trap_of (Branch op rs1 rs2 imm) s =
     if is_taken op (register s rs1) (register s rs2) then jump_trap (plus s.pc imm) else None
-trap_of (Load op rd rs1 imm) s = load_trap (address s rs1 imm) (load_size op)
-trap_of (Store op rs1 rs2 imm) s = store_trap s.code_words (address s rs1 imm) (store_size op)
+trap_of (Load op rd rs1 imm) s = load_trap s.layout (address s rs1 imm) (load_size op)
+trap_of (Store op rs1 rs2 imm) s = store_trap s.layout s.code_words (address s rs1 imm) (store_size op)
 trap_of (Upper op rd field) s = None
 trap_of (Imm op rd rs1 imm) s = None
 trap_of (Shift op rd rs1 amount) s = None

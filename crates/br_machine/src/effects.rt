@@ -7,7 +7,6 @@ ghost use Rattle.br_machine.specs.Traps.{trap_of};
 ghost use Rattle.br_machine.specs.Effects.{next_pc, computes, jumps, device_read, effect};
 
 use crate::arithmetic::{imm_value, is_taken, reg_value, shift_value};
-use crate::layout::CODE_BASE;
 use crate::machine::Machine;
 use crate::stepped::Stepped;
 use crate::table::by_operation;
@@ -15,14 +14,14 @@ use crate::traps::{in_ram, load_size, store_size};
 use br_rv32im::{BranchOp, Ins, LoadOp, StoreOp, UpperOp};
 
 impl Machine {
-    // The address behind this instruction.
+    // The address after this instruction.
     fn next_pc(&self) -> u32
         ensures { result ≡ next_pc self.now }
     {
         self.pc().wrapping_add(4)
     }
 
-    // A register takes a value, and the machine goes on behind this instruction.
+    // A register takes a value, and the machine goes on after this instruction.
     fn compute(&mut self, rd: u32, v: u32)
         requires { rd < 32 }
         ensures { self.new ≡ computes rd v self.old }
@@ -31,14 +30,14 @@ impl Machine {
         self.set_register(rd, v);
     }
 
-    // A register takes the address behind this instruction, and the machine goes on at another.
+    // A register takes the address after this instruction, and the machine goes on at another.
     fn jump(&mut self, rd: u32, target: u32)
         requires { rd < 32 }
         ensures { self.new ≡ jumps rd target self.old }
     {
-        let behind = self.next_pc();
+        let after = self.next_pc();
         self.set_pc(target);
-        self.set_register(rd, behind);
+        self.set_register(rd, after);
     }
 
     fn upper(&mut self, op: UpperOp, rd: u32, field: u32) -> Stepped
@@ -90,10 +89,10 @@ impl Machine {
         ensures end { result ≡ (effect (Ins.Load op rd rs1 imm) self.old next_answer).1 }
     {
         let a = self.address(rs1, imm);
-        if !in_ram(a, load_size(op)) {
+        if !in_ram(self.layout(), a, load_size(op)) {
             return self.read_device(rd, a, next_answer);
         }
-        let v = self.loaded(op, a - CODE_BASE);
+        let v = self.loaded(op, a - self.layout().ram_base());
         self.compute(rd, v);
         Stepped::Ran
     }
@@ -106,8 +105,8 @@ impl Machine {
         let a = self.address(rs1, imm);
         let v = self.register(rs2);
         self.set_pc(self.next_pc());
-        if in_ram(a, store_size(op)) {
-            self.store_at(op, a - CODE_BASE, v);
+        if in_ram(self.layout(), a, store_size(op)) {
+            self.store_at(op, a - self.layout().ram_base(), v);
             Stepped::Ran
         } else {
             Stepped::Wrote(a, v)

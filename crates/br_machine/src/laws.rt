@@ -1,10 +1,10 @@
 // Laws of the machine's step. Each function does nothing: what it ensures is the law.
 
-ghost use Rattle.std.specs.Prelude.{◌≡◌, ℕ, ◌+◌, ◌-◌, ◌*◌, ◌%◌, ◌<◌, ◌≤◌, Option, IfSome, slice_index, take};
+ghost use Rattle.std.specs.Prelude.{◌≡◌, ℕ, ◌+◌, ◌-◌, ◌*◌, ◌%◌, ◌<◌, ◌≤◌, Option, IfSome, slice_index, take, drop};
 ghost use Rattle.br_bytes.specs.Number.{low_bytes};
 ghost use Rattle.br_words.specs.Words.{IsWord};
-ghost use Rattle.br_machine.specs.State.{MachineState, IsMachine, register};
-ghost use Rattle.br_machine.specs.Layout.{data_base, ram_end};
+ghost use Rattle.br_machine.specs.State.{MachineState, IsMachine, code_place, register};
+ghost use Rattle.br_words.specs.Layout.{data_base, stack_end};
 ghost use Rattle.br_machine.specs.Step.{step};
 ghost use Rattle.br_machine.specs.Steps.{Moment, after_steps};
 ghost use Rattle.br_machine.specs.Start.{IsLeftover};
@@ -23,12 +23,15 @@ pub fn steps_that_end_change_nothing()
         (step s next).1 ≡ Stepped.Trapped trap pc → (step s next).0 ≡ s }
 {}
 
-/// No step changes a byte of the code, nor how many words it has.
+/// No step changes a byte of the code, nor how many words it has, nor where it stands.
 pub fn steps_keep_the_code()
     ensures bytes { (s : MachineState) (next : Option ℕ) →
-        take (4 * s.code_words) (step s next).0.ram ≡ take (4 * s.code_words) s.ram }
+        let n = 4 * s.code_words
+        in let place = code_place s.layout
+        in take n (drop place (step s next).0.ram) ≡ take n (drop place s.ram) }
     ensures words { (s : MachineState) (next : Option ℕ) →
         (step s next).0.code_words ≡ s.code_words }
+    ensures layout { (s : MachineState) (next : Option ℕ) → (step s next).0.layout ≡ s.layout }
 {}
 
 /// Register 0 reads 0 after any step (RISC-V unprivileged manual, chapter 2.1).
@@ -37,7 +40,7 @@ pub fn register_0_reads_0()
 {}
 
 /// What a step makes of a machine is a machine, where the answer that it may take is a word: its
-/// registers and its pc are words, and its RAM is of bytes.
+/// registers and its pc are words, pc is a multiple of 4, and its RAM is of bytes.
 pub fn steps_make_machines()
     ensures { (s : MachineState) (next : Option ℕ) →
         IsMachine s → IfSome next IsWord → IsMachine (step s next).0 }
@@ -55,6 +58,6 @@ pub fn steps_add_up()
 /// is the word's byte there, modulo 4, the lowest first.
 pub fn junk_repeats_a_word()
     ensures leftover { (word : ℕ) → IsWord word → IsLeftover (junk_of word) }
-    ensures bytes { (word a : ℕ) → data_base ≤ a → a < ram_end →
+    ensures bytes { (word a : ℕ) → data_base ≤ a → a < stack_end →
         slice_index (junk_of word).bytes (a - data_base) ≡ slice_index (low_bytes 4 word) (a % 4) }
 {}

@@ -4,16 +4,12 @@
 mod arithmetic;
 mod effects;
 mod laws;
-mod layout;
 mod machine;
 mod memory;
 mod running;
-mod start;
 mod step;
 mod stepped;
 mod table;
-#[cfg(test)]
-mod tests;
 mod trace;
 mod traps;
 

@@ -2,11 +2,10 @@
 
 ghost use Rattle.std.specs.Prelude.{◌≡◌, ◌+◌, ◌^◌, ◌<◌, ◌≤◌};
 ghost use Rattle.br_bytes.specs.Number.{number_of, low_bytes};
-ghost use Rattle.br_machine.specs.State.{bytes_from, with_bytes_from};
+ghost use Rattle.br_machine.specs.State.{ram_size, bytes_from, with_bytes_from};
 ghost use Rattle.br_machine.specs.Traps.{load_size, store_size};
 ghost use Rattle.br_machine.specs.Effects.{loaded};
 
-use crate::layout::RAM_SIZE;
 use crate::machine::Machine;
 use crate::table::by_operation;
 use br_rv32im::{LoadOp, StoreOp};
@@ -14,7 +13,7 @@ use br_words::sext;
 
 impl Machine {
     fn half_at(&self, place: u32) -> u32
-        requires { place + 2 ≤ RAM_SIZE }
+        requires { place + 2 ≤ ram_size self.now.layout }
         ensures value { result ≡ number_of (bytes_from self.now.ram place 2) }
         ensures small { result < 2 ^ 16 }
     {
@@ -22,7 +21,7 @@ impl Machine {
     }
 
     pub(crate) fn word_at(&self, place: u32) -> u32
-        requires { place + 4 ≤ RAM_SIZE }
+        requires { place + 4 ≤ ram_size self.now.layout }
         ensures { result ≡ number_of (bytes_from self.now.ram place 4) }
     {
         self.half_at(place) + 65536 * self.half_at(place + 2)
@@ -30,7 +29,7 @@ impl Machine {
 
     /// What a load makes of the bytes from a place on.
     pub(crate) fn loaded(&self, op: LoadOp, place: u32) -> u32
-        requires { place + load_size op ≤ RAM_SIZE }
+        requires { place + load_size op ≤ ram_size self.now.layout }
         ensures { result ≡ loaded op (number_of (bytes_from self.now.ram place (load_size op))) }
     {
         by_operation! { LoadOp, op;
@@ -43,7 +42,7 @@ impl Machine {
     }
 
     fn set_half(&mut self, place: u32, v: u32)
-        requires { place + 2 ≤ RAM_SIZE }
+        requires { place + 2 ≤ ram_size self.old.layout }
         ensures { self.new ≡ record self.old { ram = with_bytes_from self.old.ram place (low_bytes 2 v) } }
     {
         self.set_byte(place, v);
@@ -51,7 +50,7 @@ impl Machine {
     }
 
     fn set_word(&mut self, place: u32, v: u32)
-        requires { place + 4 ≤ RAM_SIZE }
+        requires { place + 4 ≤ ram_size self.old.layout }
         ensures { self.new ≡ record self.old { ram = with_bytes_from self.old.ram place (low_bytes 4 v) } }
     {
         self.set_half(place, v);
@@ -60,7 +59,7 @@ impl Machine {
 
     /// The low bytes of a number are put from a place on.
     pub(crate) fn store_at(&mut self, op: StoreOp, place: u32, v: u32)
-        requires { place + store_size op ≤ RAM_SIZE }
+        requires { place + store_size op ≤ ram_size self.old.layout }
         ensures { self.new ≡ record self.old {
           ram = with_bytes_from self.old.ram place (low_bytes (store_size op) v);
         } }

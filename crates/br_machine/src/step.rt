@@ -2,11 +2,10 @@
 
 ghost use Rattle.std.specs.Prelude.{◌≡◌, ℕ, ◌+◌, ◌≤◌};
 ghost use Rattle.std.specs.Bool.{OnTrue};
-ghost use Rattle.br_machine.specs.Layout.{code_base, ram_end};
+ghost use Rattle.br_words.specs.Layout.{code_base, ram_base, ram_end};
 ghost use Rattle.br_machine.specs.Step.{is_in_code, fetched, step};
 
 use crate::laws::steps_that_end_change_nothing;
-use crate::layout::CODE_BASE;
 use crate::machine::Machine;
 use crate::stepped::{Stepped, Trap};
 use br_rv32im::decode;
@@ -15,18 +14,19 @@ impl Machine {
     // Whether pc is the address of a byte of the code.
     fn is_in_code(&self) -> bool
         ensures value { result ≡ is_in_code self.now }
-        ensures in_ram { OnTrue result ((code_base ≤ self.now.pc) × (self.now.pc + 4 ≤ ram_end)) }
+        ensures in_ram { OnTrue result ((ram_base self.now.layout ≤ self.now.pc) × (self.now.pc + 4 ≤ ram_end self.now.layout)) }
     {
         let pc = self.pc();
-        CODE_BASE <= pc && pc < CODE_BASE + 4 * self.code_words()
+        let base = self.layout().code_base();
+        base <= pc && pc < base + 4 * self.code_words()
     }
 
     // The word at pc.
     fn fetched(&self) -> u32
-        requires in_ram { (code_base ≤ self.now.pc) × (self.now.pc + 4 ≤ ram_end) }
+        requires in_ram { (ram_base self.now.layout ≤ self.now.pc) × (self.now.pc + 4 ≤ ram_end self.now.layout) }
         ensures { result ≡ fetched self.now }
     {
-        self.word_at(self.pc() - CODE_BASE)
+        self.word_at(self.pc() - self.layout().ram_base())
     }
 
     fn trapped(&self, trap: Trap) -> Stepped

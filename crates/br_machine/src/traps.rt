@@ -1,16 +1,17 @@
 // Which rules an instruction would break.
 
-ghost use Rattle.std.specs.Prelude.{◌≡◌, ◌+◌, ◌<◌, ◌≤◌};
+ghost use Rattle.std.specs.Prelude.{◌≡◌, ◌+◌, ◌*◌, ◌<◌, ◌≤◌};
 ghost use Rattle.br_words.specs.Device.{in_device_window};
+ghost use Rattle.br_words.specs.Layout.{most_words};
 ghost use Rattle.br_rv32im.specs.Encoding.{Fits};
-ghost use Rattle.br_machine.specs.Traps.{address, jalr_target, in_ram, jump_trap, device_trap, load_trap, store_trap, load_size, store_size, trap_of};
+ghost use Rattle.br_machine.specs.Traps.{address, jalr_target, in_ram, meet, jump_trap, device_trap, load_trap, store_trap, load_size, store_size, trap_of};
 
 use crate::arithmetic::is_taken;
-use crate::layout::{CODE_BASE, RAM_END};
 use crate::machine::Machine;
 use crate::stepped::Trap;
 use crate::table::by_operation;
 use br_rv32im::{Ins, LoadOp, StoreOp};
+use br_words::{Layout, device_word};
 
 /// How many bytes a load moves.
 pub(crate) fn load_size(op: LoadOp) -> u32
@@ -39,19 +40,18 @@ pub(crate) fn store_size(op: StoreOp) -> u32
 }
 
 /// Whether `n` bytes from `a` on are in RAM.
-pub(crate) fn in_ram(a: u32, n: u32) -> bool
+pub(crate) fn in_ram(layout: Layout, a: u32, n: u32) -> bool
     requires { n ≤ 4 }
-    ensures { result ≡ in_ram a n }
+    ensures { result ≡ in_ram layout a n }
 {
-    CODE_BASE <= a && a <= RAM_END - n
+    layout.ram_base() <= a && a <= layout.ram_end() - n
 }
 
+// Each window begins and ends at a multiple of 4.
 fn in_device_window(a: u32) -> bool
     ensures { result ≡ in_device_window a }
 {
-    let gpio = 0x1001_2000 <= a && a < 0x1001_3000;
-    let spi = 0x1002_4000 <= a && a < 0x1002_5000;
-    gpio || spi
+    device_word(a / 4 * 4)
 }
 
 fn jump_trap(target: u32) -> Option<Trap>
@@ -76,25 +76,36 @@ fn device_trap(a: u32, n: u32) -> Option<Trap>
     }
 }
 
-fn load_trap(a: u32, n: u32) -> Option<Trap>
+fn load_trap(layout: Layout, a: u32, n: u32) -> Option<Trap>
     requires { n ≤ 4 }
-    ensures { result ≡ load_trap a n }
+    ensures { result ≡ load_trap layout a n }
 {
-    if in_ram(a, n) {
+    if in_ram(layout, a, n) {
         None
     } else {
         device_trap(a, n)
     }
 }
 
-fn store_trap(code_words: u32, a: u32, n: u32) -> Option<Trap>
-    requires words { code_words ≤ 262144 }
+// Whether one of `n` bytes from `a` on, which are in RAM, is the code's.
+fn touches_code(layout: Layout, code_words: u32, a: u32, n: u32) -> bool
+    requires words { code_words ≤ most_words layout }
     requires bytes { n ≤ 4 }
-    ensures { result ≡ store_trap code_words a n }
+    requires inside { in_ram layout a n ≡ true }
+    ensures { result ≡ meet a n (layout.code_base layout) (4 * code_words) }
 {
-    if !in_ram(a, n) {
+    let base = layout.code_base();
+    a.max(base) < (a + n).min(base + 4 * code_words)
+}
+
+fn store_trap(layout: Layout, code_words: u32, a: u32, n: u32) -> Option<Trap>
+    requires words { code_words ≤ most_words layout }
+    requires bytes { n ≤ 4 }
+    ensures { result ≡ store_trap layout code_words a n }
+{
+    if !in_ram(layout, a, n) {
         device_trap(a, n)
-    } else if a < CODE_BASE + 4 * code_words {
+    } else if touches_code(layout, code_words, a, n) {
         Some(Trap::CodeWrite)
     } else {
         None
@@ -133,9 +144,9 @@ impl Machine {
                     None
                 }
             }
-            Ins::Load(op, _, rs1, imm) => load_trap(self.address(rs1, imm), load_size(op)),
+            Ins::Load(op, _, rs1, imm) => load_trap(self.layout(), self.address(rs1, imm), load_size(op)),
             Ins::Store(op, rs1, _, imm) => {
-                store_trap(self.code_words(), self.address(rs1, imm), store_size(op))
+                store_trap(self.layout(), self.code_words(), self.address(rs1, imm), store_size(op))
             }
             Ins::Upper(..) | Ins::Imm(..) | Ins::Shift(..) | Ins::Reg(..) | Ins::Ecall => None,
         }

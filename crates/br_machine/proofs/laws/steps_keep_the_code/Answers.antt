@@ -7,3 +7,6 @@ returns-clause-bytes c = λ s next. (keeps_step s next).code
 
 pub returns-clause-words : goal.returns-clause-words
 returns-clause-words c = λ s next. (keeps_step s next).words
+
+pub returns-clause-layout : goal.returns-clause-layout
+returns-clause-layout c = λ s next. (keeps_step s next).layout
