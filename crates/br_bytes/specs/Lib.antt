@@ -4,3 +4,4 @@ pub mod Buffers
 pub mod Ranges
 pub mod Called
 pub mod Runs
+pub mod Left
