@@ -1,10 +1,10 @@
 // What an instruction does that breaks no rule.
 
-ghost use Rattle.std.specs.Prelude.{◌≡◌, ℕ, ◌^◌, ◌<◌, ◌+◌, ◌-◌, None};
+ghost use Rattle.std.specs.Prelude.{◌≡◌, ℕ, ◌%◌, ◌^◌, ◌<◌, ◌+◌, ◌-◌, None};
 ghost use Rattle.br_words.specs.Words.{wrapped};
 ghost use Rattle.br_rv32im.specs.Encoding.{Fits};
-ghost use Rattle.br_machine.specs.Traps.{trap_of};
-ghost use Rattle.br_machine.specs.Effects.{next_pc, computes, jumps, device_read, effect};
+ghost use Rattle.br_machine.specs.Traps.{jump_trap, trap_of};
+ghost use Rattle.br_machine.specs.Effects.{at_pc, next_pc, computes, jumps, device_read, effect};
 
 use crate::arithmetic::{imm_value, is_taken, reg_value, shift_value};
 use crate::machine::Machine;
@@ -16,7 +16,8 @@ use br_rv32im::{BranchOp, Ins, LoadOp, StoreOp, UpperOp};
 impl Machine {
     // The address after this instruction.
     fn next_pc(&self) -> u32
-        ensures { result ≡ next_pc self.now }
+        ensures value { result ≡ next_pc self.now }
+        ensures aligned { result % 4 ≡ 0 }
     {
         self.pc().wrapping_add(4)
     }
@@ -30,13 +31,22 @@ impl Machine {
         self.set_register(rd, v);
     }
 
+    // The machine goes on at a target that breaks no rule.
+    fn set_target(&mut self, target: u32)
+        requires { jump_trap target ≡ None }
+        ensures { self.new ≡ at_pc target self.old }
+    {
+        self.set_pc(target);
+    }
+
     // A register takes the address after this instruction, and the machine goes on at another.
     fn jump(&mut self, rd: u32, target: u32)
-        requires { rd < 32 }
+        requires rd { rd < 32 }
+        requires target { jump_trap target ≡ None }
         ensures { self.new ≡ jumps rd target self.old }
     {
         let after = self.next_pc();
-        self.set_pc(target);
+        self.set_target(target);
         self.set_register(rd, after);
     }
 
@@ -56,15 +66,15 @@ impl Machine {
 
     fn branch(&mut self, op: BranchOp, rs1: u32, rs2: u32, imm: i32) -> Stepped
         requires in_range { Fits (Ins.Branch op rs1 rs2 imm) }
+        requires fine { trap_of (Ins.Branch op rs1 rs2 imm) self.old ≡ None }
         ensures machine { self.new ≡ (effect (Ins.Branch op rs1 rs2 imm) self.old None).0 }
         ensures end { result ≡ Stepped.Ran }
     {
-        let target = if is_taken(op, self.register(rs1), self.register(rs2)) {
-            self.pc().wrapping_add_signed(imm)
+        if is_taken(op, self.register(rs1), self.register(rs2)) {
+            self.set_target(self.pc().wrapping_add_signed(imm));
         } else {
-            self.next_pc()
-        };
-        self.set_pc(target);
+            self.set_pc(self.next_pc());
+        }
         Stepped::Ran
     }
 
@@ -117,6 +127,7 @@ impl Machine {
     /// next.
     pub(crate) fn effect(&mut self, i: Ins, next_answer: Option<u32>) -> Stepped
         requires in_range { Fits i }
+        requires fine { trap_of i self.old ≡ None }
         ensures machine { self.new ≡ (effect i self.old next_answer).0 }
         ensures end { result ≡ (effect i self.old next_answer).1 }
     {

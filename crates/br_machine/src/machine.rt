@@ -105,7 +105,8 @@ impl Machine {
 
     /// The address of the next instruction, a multiple of 4.
     pub fn pc(&self) -> u32
-        ensures { result ≡ self.now.pc }
+        ensures value { result ≡ self.now.pc }
+        ensures aligned { result % 4 ≡ 0 }
     {
         self.pc
     }
@@ -142,6 +143,7 @@ impl Machine {
     }
 
     pub(crate) fn set_pc(&mut self, a: u32)
+        requires { a % 4 ≡ 0 }
         ensures { self.new ≡ at_pc a self.old }
     {
         self.pc = a;

@@ -1,8 +1,8 @@
 // Which rules an instruction would break.
 
-ghost use Rattle.std.specs.Prelude.{◌≡◌, ◌+◌, ◌*◌, ◌<◌, ◌≤◌};
+ghost use Rattle.std.specs.Prelude.{◌≡◌, ◌+◌, ◌*◌, ◌<◌, ◌≤◌, true};
 ghost use Rattle.br_words.specs.Device.{in_device_window};
-ghost use Rattle.br_words.specs.Layout.{most_words};
+ghost use Rattle.br_words.specs.Layout.{code_base, most_words};
 ghost use Rattle.br_rv32im.specs.Encoding.{Fits};
 ghost use Rattle.br_machine.specs.Traps.{address, jalr_target, in_ram, meet, jump_trap, device_trap, load_trap, store_trap, load_size, store_size, trap_of};
 
@@ -92,7 +92,7 @@ fn touches_code(layout: Layout, code_words: u32, a: u32, n: u32) -> bool
     requires words { code_words ≤ most_words layout }
     requires bytes { n ≤ 4 }
     requires inside { in_ram layout a n ≡ true }
-    ensures { result ≡ meet a n (layout.code_base layout) (4 * code_words) }
+    ensures { result ≡ meet a n (code_base layout) (4 * code_words) }
 {
     let base = layout.code_base();
     a.max(base) < (a + n).min(base + 4 * code_words)
