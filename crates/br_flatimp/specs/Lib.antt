@@ -6,3 +6,4 @@ pub mod WellFormed
 pub mod Liveness
 pub mod Missed
 pub mod Sizes
+pub mod Matches
