@@ -17,3 +17,7 @@ AppendsSome old new bytes = (n : ℕ) × (n ≤ length bytes) × Appends old new
 -- where the bytes left are told, this many were taken
 abbrev pub ConsumesMany : Option (List ℕ) → Option (List ℕ) → ℕ → Type 0
 ConsumesMany old new n = (bytes : List ℕ) × (length bytes ≡ n) × Consumes old new bytes
+
+-- where the bytes left are told, at most this many were taken
+abbrev pub ConsumesAtMost : Option (List ℕ) → Option (List ℕ) → ℕ → Type 0
+ConsumesAtMost old new n = (bytes : List ℕ) × (length bytes ≤ n) × Consumes old new bytes

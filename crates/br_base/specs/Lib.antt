@@ -1,4 +1,5 @@
 pub mod Ends
+pub mod Faults
 pub mod Memory
 pub mod Name
 pub mod Status

@@ -1,6 +1,8 @@
 // The ways in which a call can fail that have nothing to do with what it was given.
 
 ghost use Rattle.std.specs.Prelude.{◌≡◌};
+ghost use Rattle.br_base.specs.declared.failure.OrMemory.TheVariants.{Memory, Fault};
+ghost use Rattle.br_base.specs.Faults.{IfFault};
 
 use std::alloc::{AllocError, AllocFailed};
 
@@ -32,6 +34,20 @@ pub enum OrMemory<F> {
     Memory,
     /// What was given is refused, for this reason.
     Fault(F),
+}
+
+impl<F> OrMemory<F> {
+    /// Want of memory as it is, or what `make` makes of the fault.
+    pub fn map<G, M: FnOnce(F) -> G>(self, make: M) -> OrMemory<G>
+        requires { IfFault self (M.pre make) }
+        ensures memory { self ≡ Memory → result ≡ Memory }
+        ensures fault { IfFault self (λ fault. (made : _) × M.post make fault made × (result ≡ Fault made)) }
+    {
+        match self {
+            OrMemory::Memory => OrMemory::Memory,
+            OrMemory::Fault(fault) => OrMemory::Fault(make(fault)),
+        }
+    }
 }
 
 impl<F> From<AllocError> for OrMemory<F> {

@@ -65,6 +65,7 @@ impl Source for MemSource {
         ensures unwritten { OnErr result (buf.new ≡ buf.old) }
 
         ensures end { IfOk result (λ n. n ≡ 0 → 0 < length buf.new → self.new.left ≡ []) }
+        ensures sound { OnOk result (self.new.faults ≡ self.old.faults) }
         ensures count { self.old.faults ≤ self.new.faults }
         ensures last { self.new.faults ≤ last_count }
     {
@@ -148,6 +149,7 @@ impl Sink for MemSink {
         ensures err { OnErr result (self.new ≡ record self.old { calls = next_call self.old.calls; faults = min (self.old.faults + 1) last_count }) }
 
         ensures some { IfOk result (λ n. 0 < length piece.now → 0 < n) }
+        ensures sound { OnOk result (self.new.faults ≡ self.old.faults) }
         ensures count { self.old.faults ≤ self.new.faults }
         ensures last { self.new.faults ≤ last_count }
     {

@@ -1,6 +1,6 @@
 // Where the bytes of the program go to.
 
-ghost use Rattle.std.specs.Prelude.{◌≡◌, ℕ, ◌+◌, ◌≤◌, ◌<◌, List, Option, length, take, IfOk, OnOk, OnErr, IfSome};
+ghost use Rattle.std.specs.Prelude.{◌≡◌, ℕ, ◌+◌, ◌≤◌, ◌<◌, List, [], Option, length, take, Ok, IfOk, OnOk, OnErr, IfSome};
 ghost use Rattle.std.specs.Io.KnownBytes.{Appends, Keeps};
 ghost use Rattle.br_base.specs.Ends.{Rose, last_count, AppendsSome};
 
@@ -15,23 +15,26 @@ pub trait Sink {
     ghost faults: { Self → ℕ };
 
     /// Adds the first bytes of the piece, and answers how many: at least one, unless the piece is
-    /// empty.
+    /// empty. The count of faults rises with a failure alone.
     fn write(&mut self, piece: &[u8]) -> Result<usize, Failed>
         ensures fits { IfOk result (λ n. n ≤ length piece.now) }
         ensures some { IfOk result (λ n. 0 < length piece.now → 0 < n) }
         ensures added { IfOk result (λ n. Appends (held self.old) (held self.new) (take n piece.now)) }
         ensures unchanged { OnErr result (Keeps (held self.old) (held self.new)) }
         ensures failed { OnErr result (Rose (faults self.old) (faults self.new)) }
+        ensures sound { OnOk result (faults self.new ≡ faults self.old) }
         ensures count { faults self.old ≤ faults self.new }
         ensures last { faults self.new ≤ last_count };
 }
 
-/// Adds all of `bytes`. Each write offers all that is left. After a failure the sink holds the
-/// first of them.
+/// Adds all of `bytes`. Each write offers all that is left, and no bytes make no write. After a
+/// failure, which ends it, the sink holds the first of them.
 pub fn write_all<O: Sink>(out: &mut O, bytes: &[u8]) -> Result<(), Failed>
     ensures added { OnOk result (Appends (O.held out.old) (O.held out.new) bytes.now) }
     ensures some { OnErr result (AppendsSome (O.held out.old) (O.held out.new) bytes.now) }
     ensures failed { OnErr result (Rose (O.faults out.old) (O.faults out.new)) }
+    ensures sound { OnOk result (O.faults out.new ≡ O.faults out.old) }
+    ensures none { bytes.now ≡ [] → (result ≡ Ok tt) × (out.new ≡ out.old) }
     ensures count { O.faults out.old ≤ O.faults out.new }
 {
     let mut written = 0;

@@ -1,4 +1,4 @@
-use Rattle.std.proofs.Common.{arith}
+use Rattle.std.proofs.Common.{arith, ap, length}
 use Rattle.br_base.proofs.Known.{Appends-append, take-append-rest}
 use Rattle.br_base.proofs.sink.write_all.Goals as goal
 
@@ -9,5 +9,6 @@ loop-written-preserved g c =
       added =
           rw (← take-append-rest c.args.bytes.now c.loop-written.written c.in_ok-written.field-0)
           (Appends-append _ _ _ _ _ c.loop-written.invariant.added c.in_ok-written.ensures.added);
-      count = omega (arith, c.in_ok-written.ensures.count);
+      sound = omega (arith, c.in_ok-written.ensures.sound);
+      none = λ e. absurd (let none = ap length e in omega arith);
     }
