@@ -1,15 +1,18 @@
 -- Each question that the reading of a text asks has an answer.
-use Rattle.std.proofs.Common.{◌≡◌, ◌≢◌, ◌⊎◌, inl, inr, ℕ, zero, suc, ◌*◌, ◌%◌, ◌^◌, ◌<◌, ◌≤◌, Bool, true, false, List, [], ◌∷◌, ◌++◌, refl, ap, sym, ◌∙◌, arith, subst, take, eqb}
+use Rattle.std.proofs.Common.{◌≡◌, ◌≢◌, ◌⊎◌, inl, inr, ℕ, zero, suc, ◌+◌, ◌*◌, ◌%◌, ◌^◌, ◌<◌, ◌≤◌, Bool, true, false, List, [], ◌∷◌, ◌++◌, refl, ap, sym, ◌∙◌, arith, subst, take, eqb}
 use Rattle.std.specs.Prelude.{All, Any, codes}
 use Rattle.std.specs.Fmt.{decimal}
 use Rattle.std.proofs.lemmas.Bool.{cases_lt, cases_eq}
 use Rattle.std.proofs.lemmas.List.Elements.{All-cons, All-nil}
 use lib.Pointwise.{pointwise, bytes_decides}
 use Rattle.br_base.specs.Name.{IsName, is_name}
+use Rattle.br_words.specs.declared.layout.Layout.{Layout}
+use Rattle.br_words.specs.declared.layout.Layout.TheVariants.{One, Two}
+use Rattle.br_words.specs.Layout.{most_words}
 use Rattle.br_image.specs.declared.images.Entry.{Entry}
 use Rattle.br_image.specs.declared.lines.Line.{Line}
 use Rattle.br_image.specs.declared.lines.Line.TheVariants.{Header, Function, Count, Word, End}
-use Rattle.br_image.specs.Text.{entry_text, code_text, word_text}
+use Rattle.br_image.specs.Text.{header_text, entry_text, code_text, word_text}
 use Rattle.br_image.specs.Lines.{IsLine, IsEntryLine, line_text}
 use Rattle.br_image.specs.Forms.{numbers_text, fields_text}
 use Rattle.br_image.specs.Faults.{IsOffset}
@@ -148,27 +151,41 @@ entry_or_not xs =
       ]
     ]
 
-no_form : (xs : List ℕ) → xs ≢ codes "brimage 1" → ((e : Entry) → IsEntryLine e → xs ≢ entry_text e) → ((n : ℕ) → n < 262145 → xs ≢ code_text n)
-    → ((w : ℕ) → w < 2 ^ 32 → xs ≢ word_text w) → xs ≢ codes "end" → (l : Line) → IsLine l → xs ≢ line_text l
-no_form xs a b c d e Header h = a
-no_form xs a b c d e (Function x) h = b x h
-no_form xs a b c d e (Count n) h = c n (omega arith)
-no_form xs a b c d e (Word w) h = d w h
-no_form xs a b c d e End h = e
+no_form : (y : Layout) (xs : List ℕ) → ((own : Layout) → xs ≢ header_text own) → ((e : Entry) → IsEntryLine e → xs ≢ entry_text e)
+    → ((n : ℕ) → n < most_words y + 1 → xs ≢ code_text n) → ((w : ℕ) → w < 2 ^ 32 → xs ≢ word_text w) → xs ≢ codes "end" → (l : Line) → IsLine y l → xs ≢ line_text l
+no_form y xs a b c d e (Header own) h = a own
+no_form y xs a b c d e (Function x) h = b x h
+no_form y xs a b c d e (Count n) h = c n (omega arith)
+no_form y xs a b c d e (Word w) h = d w h
+no_form y xs a b c d e End h = e
 
-pub line_or_not : (xs : List ℕ) → ((l : Line) × IsLine l × (xs ≡ line_text l)) ⊎ ((l : Line) → IsLine l → xs ≢ line_text l)
-line_or_not xs =
-    elim (same_bytes xs (codes "brimage 1")) [
-      | inl header ↦ inl (Header, tt, header)
+neither : (xs : List ℕ) → xs ≢ header_text One → xs ≢ header_text Two → (own : Layout) → xs ≢ header_text own
+neither xs a b One = a
+neither xs a b Two = b
+
+header_or_not : (xs : List ℕ) → ((own : Layout) × (xs ≡ header_text own)) ⊎ ((own : Layout) → xs ≢ header_text own)
+header_or_not xs =
+    elim (same_bytes xs (header_text One)) [
+      | inl one ↦ inl (One, one)
+      | inr a ↦ elim (same_bytes xs (header_text Two)) [
+        | inl two ↦ inl (Two, two)
+        | inr b ↦ inr (neither xs a b)
+      ]
+    ]
+
+pub line_or_not : (y : Layout) (xs : List ℕ) → ((l : Line) × IsLine y l × (xs ≡ line_text l)) ⊎ ((l : Line) → IsLine y l → xs ≢ line_text l)
+line_or_not y xs =
+    elim (header_or_not xs) [
+      | inl header ↦ inl (Header header.0, tt, header.1)
       | inr a ↦ elim (entry_or_not xs) [
         | inl entry ↦ inl (Function entry.0, entry.1, entry.2)
-        | inr b ↦ elim (number_below code_text xs 262145) [
+        | inr b ↦ elim (number_below code_text xs (most_words y + 1)) [
           | inl count ↦ inl (Count count.0, (let h = count.1 in omega arith), count.2)
           | inr c ↦ elim (number_below word_text xs (2 ^ 32)) [
             | inl word ↦ inl (Word word.0, word.1, word.2)
             | inr d ↦ elim (same_bytes xs (codes "end")) [
               | inl end ↦ inl (End, tt, end)
-              | inr e ↦ inr (no_form xs a b c d e)
+              | inr e ↦ inr (no_form y xs a b c d e)
             ]
           ]
         ]

@@ -5,10 +5,13 @@ use Rattle.std.specs.Prelude.{codes, slice_index, ◌==◌, false}
 use Rattle.std.specs.Fmt.{decimal}
 use Rattle.std.proofs.lemmas.Fmt.{decimal_injective}
 use Rattle.std.proofs.lemmas.Bool.Decides.{nat_tests}
+use Rattle.br_words.specs.declared.layout.Layout.{Layout}
+use Rattle.br_words.specs.declared.layout.Layout.TheVariants.{One, Two}
+use Rattle.br_words.specs.Layout.{most_words}
 use Rattle.br_image.specs.declared.images.Entry.{Entry}
 use Rattle.br_image.specs.declared.lines.Line.{Line}
 use Rattle.br_image.specs.declared.lines.Line.TheVariants.{Header, Function, Count, Word, End}
-use Rattle.br_image.specs.Text.{entry_text, word_text, hex_digit}
+use Rattle.br_image.specs.Text.{version_text, header_text, entry_text, word_text, hex_digit}
 use Rattle.br_image.specs.Forms.{numbers_text}
 use Rattle.br_image.specs.Lines.{IsLine, IsEntryLine, line_text}
 use Rattle.br_image.proofs.Pieces.{Free, Free-append, Free-from_test, Free-decimal, Free-name, cut}
@@ -63,15 +66,26 @@ Free-fields e h =
     Free-append 10 e.name (32 ∷ (decimal e.args ++ 32 ∷ (decimal e.results ++ 32 ∷ (decimal e.offset ++ 32 ∷ decimal e.need))))
     (Free-name 10 e.name (omega arith) name) (space, one)
 
+-- no layout has more words than this
+pub most_within : (y : Layout) → most_words y ≤ 1048576
+most_within One = omega arith
+most_within Two = omega arith
+
+Free-header : (c : ℕ) (y : Layout) → c ≡ 10 → Free c (header_text y)
+Free-header c One h = rw h (Free-from_test 10 (codes "brimage 1") refl)
+Free-header c Two h = rw h (Free-from_test 10 (codes "brimage 2") refl)
+
 -- no line holds a line feed
-pub Free-line : (l : Line) → IsLine l → Free 10 (line_text l)
-Free-line Header h = Free-from_test 10 (codes "brimage 1") refl
-Free-line (Function e) h =
+pub Free-line : (y : Layout) (l : Line) → IsLine y l → Free 10 (line_text l)
+Free-line y (Header own) h = Free-header 10 own refl
+Free-line y (Function e) h =
     let P : List ℕ → Type 0 = λ t. Free 10 t in
     subst P (sym (entry_text-fields e)) (Free-append 10 (codes "entry ") (fields e.name e.args e.results e.offset e.need) (Free-from_test 10 (codes "entry ") refl) (Free-fields e h))
-Free-line (Count n) h = Free-append 10 (codes "code ") (decimal n) (Free-from_test 10 (codes "code ") refl) (Free-decimal 10 n (omega arith) (omega arith))
-Free-line (Word w) h = Free-word 10 w (omega arith)
-Free-line End h = Free-from_test 10 (codes "end") refl
+Free-line y (Count n) h =
+    let within = most_within y in
+    Free-append 10 (codes "code ") (decimal n) (Free-from_test 10 (codes "code ") refl) (Free-decimal 10 n (omega arith) (omega arith))
+Free-line y (Word w) h = Free-word 10 w (omega arith)
+Free-line y End h = Free-from_test 10 (codes "end") refl
 
 make_entry : List ℕ → ℕ → ℕ → ℕ → ℕ → Entry
 make_entry name args results offset need = record { name = name; args = args; results = results; offset = offset; need = need }
@@ -122,33 +136,41 @@ apart k xs ys t e =
     let same : slice_index xs k ≡ slice_index ys k = ap (λ s. slice_index s k) e in
     grind (arith, nat_tests)
 
+version_text-injective : (y z : Layout) → version_text y ≡ version_text z → y ≡ z
+version_text-injective One One e = refl
+version_text-injective One Two e = absurd (apart 0 (version_text One) (version_text Two) refl e)
+version_text-injective Two One e = absurd (apart 0 (version_text Two) (version_text One) refl e)
+version_text-injective Two Two e = refl
+
 -- two lines with one text are equal
-pub line_text-injective : (l m : Line) → IsLine l → IsLine m → line_text l ≡ line_text m → l ≡ m
-line_text-injective Header Header h k e = refl
-line_text-injective (Function x) (Function y) h k e =
+pub line_text-injective : (p q : Layout) (l m : Line) → IsLine p l → IsLine q m → line_text l ≡ line_text m → l ≡ m
+line_text-injective p q (Header own) (Header own') h k e = ap Header (version_text-injective own own' (append_cancel_left (codes "brimage ") (version_text own) (version_text own') e))
+line_text-injective p q (Function x) (Function y) h k e =
     ap Function (fields-injective x y h k
     (append_cancel_left (codes "entry ") _ _ (sym (entry_text-fields x) ∙ (e ∙ entry_text-fields y))))
-line_text-injective (Count m) (Count n) h k e =
+line_text-injective p q (Count m) (Count n) h k e =
+    let within = most_within p in
+    let within' = most_within q in
     ap Count (decimal_injective m n (omega arith) (omega arith) (append_cancel_left (codes "code ") (decimal m) (decimal n) e))
-line_text-injective (Word v) (Word w) h k e = ap Word (word_text-injective v w h k e)
-line_text-injective End End h k e = refl
-line_text-injective Header (Function x) h k e = absurd (apart 0 (line_text Header) (line_text (Function x)) refl e)
-line_text-injective Header (Count n) h k e = absurd (apart 0 (line_text Header) (line_text (Count n)) refl e)
-line_text-injective Header (Word w) h k e = absurd (let b = second w 114 98 _ (sym e) in omega arith)
-line_text-injective Header End h k e = absurd (apart 0 (line_text Header) (line_text End) refl e)
-line_text-injective (Function x) Header h k e = absurd (apart 0 (line_text (Function x)) (line_text Header) refl e)
-line_text-injective (Function x) (Count n) h k e = absurd (apart 0 (line_text (Function x)) (line_text (Count n)) refl e)
-line_text-injective (Function x) (Word w) h k e = absurd (let b = second w 110 101 _ (sym e) in omega arith)
-line_text-injective (Function x) End h k e = absurd (apart 2 (line_text (Function x)) (line_text End) refl e)
-line_text-injective (Count n) Header h k e = absurd (apart 0 (line_text (Count n)) (line_text Header) refl e)
-line_text-injective (Count n) (Function x) h k e = absurd (apart 0 (line_text (Count n)) (line_text (Function x)) refl e)
-line_text-injective (Count n) (Word w) h k e = absurd (let b = second w 111 99 _ (sym e) in omega arith)
-line_text-injective (Count n) End h k e = absurd (apart 0 (line_text (Count n)) (line_text End) refl e)
-line_text-injective (Word w) Header h k e = absurd (let b = second w 114 98 _ e in omega arith)
-line_text-injective (Word w) (Function x) h k e = absurd (let b = second w 110 101 _ e in omega arith)
-line_text-injective (Word w) (Count n) h k e = absurd (let b = second w 111 99 _ e in omega arith)
-line_text-injective (Word w) End h k e = absurd (let b = second w 110 101 _ e in omega arith)
-line_text-injective End Header h k e = absurd (apart 0 (line_text End) (line_text Header) refl e)
-line_text-injective End (Function x) h k e = absurd (apart 2 (line_text End) (line_text (Function x)) refl e)
-line_text-injective End (Count n) h k e = absurd (apart 0 (line_text End) (line_text (Count n)) refl e)
-line_text-injective End (Word w) h k e = absurd (let b = second w 110 101 _ (sym e) in omega arith)
+line_text-injective p q (Word v) (Word w) h k e = ap Word (word_text-injective v w h k e)
+line_text-injective p q End End h k e = refl
+line_text-injective p q (Header own) (Function x) h k e = absurd (apart 0 (line_text (Header own)) (line_text (Function x)) refl e)
+line_text-injective p q (Header own) (Count n) h k e = absurd (apart 0 (line_text (Header own)) (line_text (Count n)) refl e)
+line_text-injective p q (Header own) (Word w) h k e = absurd (let b = second w 114 98 _ (sym e) in omega arith)
+line_text-injective p q (Header own) End h k e = absurd (apart 0 (line_text (Header own)) (line_text End) refl e)
+line_text-injective p q (Function x) (Header own) h k e = absurd (apart 0 (line_text (Function x)) (line_text (Header own)) refl e)
+line_text-injective p q (Function x) (Count n) h k e = absurd (apart 0 (line_text (Function x)) (line_text (Count n)) refl e)
+line_text-injective p q (Function x) (Word w) h k e = absurd (let b = second w 110 101 _ (sym e) in omega arith)
+line_text-injective p q (Function x) End h k e = absurd (apart 2 (line_text (Function x)) (line_text End) refl e)
+line_text-injective p q (Count n) (Header own) h k e = absurd (apart 0 (line_text (Count n)) (line_text (Header own)) refl e)
+line_text-injective p q (Count n) (Function x) h k e = absurd (apart 0 (line_text (Count n)) (line_text (Function x)) refl e)
+line_text-injective p q (Count n) (Word w) h k e = absurd (let b = second w 111 99 _ (sym e) in omega arith)
+line_text-injective p q (Count n) End h k e = absurd (apart 0 (line_text (Count n)) (line_text End) refl e)
+line_text-injective p q (Word w) (Header own) h k e = absurd (let b = second w 114 98 _ e in omega arith)
+line_text-injective p q (Word w) (Function x) h k e = absurd (let b = second w 110 101 _ e in omega arith)
+line_text-injective p q (Word w) (Count n) h k e = absurd (let b = second w 111 99 _ e in omega arith)
+line_text-injective p q (Word w) End h k e = absurd (let b = second w 110 101 _ e in omega arith)
+line_text-injective p q End (Header own) h k e = absurd (apart 0 (line_text End) (line_text (Header own)) refl e)
+line_text-injective p q End (Function x) h k e = absurd (apart 2 (line_text End) (line_text (Function x)) refl e)
+line_text-injective p q End (Count n) h k e = absurd (apart 0 (line_text End) (line_text (Count n)) refl e)
+line_text-injective p q End (Word w) h k e = absurd (let b = second w 110 101 _ (sym e) in omega arith)

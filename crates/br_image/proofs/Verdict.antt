@@ -7,6 +7,9 @@ use Rattle.std.proofs.lemmas.Bool.{cases_lt}
 use Rattle.std.proofs.lemmas.List.{get_or-take, length-take}
 use Rattle.std.proofs.lemmas.List.Elements.{All-head, All-tail}
 use Rattle.std.proofs.lemmas.Option.{get_or_from_slice_get, slice_get_within}
+use Rattle.br_words.specs.declared.layout.Layout.{Layout}
+use Rattle.br_words.specs.declared.layout.Layout.TheVariants.{One, Two}
+use Rattle.br_words.specs.Layout.{most_words}
 use Rattle.br_image.specs.declared.images.Entry.{Entry}
 use Rattle.br_image.specs.declared.images.Image.{Image}
 use Rattle.br_image.specs.declared.lines.Line.{Line}
@@ -15,12 +18,12 @@ use Rattle.br_image.specs.declared.faults.ImageFault.{ImageFault}
 use Rattle.br_image.specs.declared.faults.ImageFault.TheVariants.{BadLine, BadOrder, BadOffset, Truncated}
 use Rattle.br_image.specs.Text.{line}
 use Rattle.br_image.specs.Limits.{HaveDifferentNames}
-use Rattle.br_image.specs.Lines.{IsLine, line_text, text_of, lines_of}
+use Rattle.br_image.specs.Lines.{IsLine, layout_after, line_text, text_of, lines_of}
 use Rattle.br_image.specs.Printed.{image_text}
 use Rattle.br_image.specs.Faults.{BeginsImage, IsFault, IsBadLine, IsMisplaced, IsBehindEnd, IsBadOffset, IsTruncated, IsOffset, ForFault}
 use Rattle.br_image.specs.Reading.{IsFirstBad}
 use Rattle.br_image.proofs.Pieces.{Free, Free-not, Free-lacks, cut}
-use Rattle.br_image.proofs.Forms.{Free-line, line_text-injective}
+use Rattle.br_image.proofs.Forms.{most_within, Free-line, line_text-injective}
 use Rattle.br_image.proofs.Sequences.{text_of-begins, lines_of-injective, lines_of-whole, image_text-lines, IsLine-image, same_text_same_image}
 
 -- ---- where the reading of a text stops
@@ -28,9 +31,9 @@ use Rattle.br_image.proofs.Sequences.{text_of-begins, lines_of-injective, lines_
 -- the text begins with these lines of an image, and no line of an image follows them
 record Stops (text : List ℕ) (before : List Line) (rest : List ℕ) : Type 0 where
   spelled : text ≡ text_of before ++ rest
-  forms : All IsLine before
+  forms : All (IsLine (layout_after before)) before
   order : BeginsImage before
-  stuck : (l : Line) (more : List ℕ) → IsLine l → rest ≡ line (line_text l) ++ more → BeginsImage (before ++ l ∷ []) → ⊥
+  stuck : (l : Line) (more : List ℕ) → IsLine (layout_after before) l → rest ≡ line (line_text l) ++ more → BeginsImage (before ++ l ∷ []) → ⊥
 
 All-mid : {X : Type 0} (P : X → Type 0) (xs ys : List X) (x : X) → All P (xs ++ x ∷ ys) → P x
 All-mid P [] ys x h = All-head P x ys h
@@ -39,20 +42,37 @@ All-mid P (y ∷ xs) ys x h = All-mid P xs ys x (All-tail P y (xs ++ x ∷ ys) h
 -- what begins with more lines begins with one more
 one_more : (before more : List Line) (l : Line) → BeginsImage (before ++ l ∷ more) → BeginsImage (before ++ l ∷ [])
 one_more before more l b =
-    (b.0, b.1, more ++ b.2, b.3, append_assoc before (l ∷ []) (more ++ b.2) ∙ (sym (append_assoc before (l ∷ more) b.2) ∙ b.4))
+    (b.0, b.1, b.2, more ++ b.3, b.4, append_assoc before (l ∷ []) (more ++ b.3) ∙ (sym (append_assoc before (l ∷ more) b.3) ∙ b.5))
+
+-- what is a line of a text of some layout is a line of one that may be larger
+wider : (y : Layout) (l : Line) → IsLine y l → IsLine Two l
+wider y (Header own) h = h
+wider y (Function e) h = h
+wider y (Count n) h = let within = most_within y in omega arith
+wider y (Word w) h = h
+wider y End h = h
+
+-- a line that stands after more lines may stand after fewer
+earlier : (before more : List Line) (l : Line) → IsLine (layout_after (before ++ more)) l → IsLine (layout_after before) l
+earlier [] more l h = wider (layout_after more) l h
+earlier (Header own ∷ before) more l h = h
+earlier (Function e ∷ before) more l h = h
+earlier (Count n ∷ before) more l h = h
+earlier (Word w ∷ before) more l h = h
+earlier (End ∷ before) more l h = h
 
 stops_before : (text : List ℕ) (before after : List Line) (rest rest' : List ℕ) (more : List Line) → Stops text before rest → Stops text after rest'
     → after ≡ before ++ more → rest ≡ text_of more ++ rest' → (before ≡ after) × (rest ≡ rest')
 stops_before text before after rest rest' [] h k e f = (sym (e ∙ append-nil before), f)
 stops_before text before after rest rest' (l ∷ more) h k e f =
-    let P : List Line → Type 0 = λ ls. All IsLine ls in
+    let P : List Line → Type 0 = λ ls. All (IsLine (layout_after ls)) ls in
     let Q : List Line → Type 0 = λ ls. BeginsImage ls in
-    absurd (h.stuck l (text_of more ++ rest') (All-mid IsLine before more l (subst P e k.forms))
+    absurd (h.stuck l (text_of more ++ rest') (earlier before (l ∷ more) l (All-mid (IsLine (layout_after (before ++ l ∷ more))) before more l (subst P e k.forms)))
     (f ∙ append_assoc (line (line_text l)) (text_of more) rest') (one_more before more l (subst Q e k.order)))
 
 stops_same : (text : List ℕ) (before after : List Line) (rest rest' : List ℕ) → Stops text before rest → Stops text after rest' → (before ≡ after) × (rest ≡ rest')
 stops_same text before after rest rest' h k =
-    elim (text_of-begins before after rest rest' h.forms k.forms (sym h.spelled ∙ k.spelled)) [
+    elim (text_of-begins (layout_after before) (layout_after after) before after rest rest' h.forms k.forms (sym h.spelled ∙ k.spelled)) [
       | inl b ↦ stops_before text before after rest rest' b.0 h k b.1 b.2
       | inr b ↦ let same = stops_before text after before rest' rest b.0 k h b.1 b.2 in (sym same.0, sym same.1)
     ]
@@ -63,16 +83,16 @@ stops_same text before after rest rest' h k =
 IsOpenStop : List Line → List ℕ → ImageFault → Type 0
 IsOpenStop before rest f =
     ((f ≡ Truncated (length before + 1)) × Free 10 rest)
-    ⊎ ((f ≡ BadLine (length before + 1)) × ((bytes : List ℕ) × (more : List ℕ) × (rest ≡ bytes ++ 10 ∷ more) × Free 10 bytes × ((l : Line) → IsLine l → bytes ≢ line_text l)))
-    ⊎ ((f ≡ BadOrder (length before + 1)) × ((l : Line) × (more : List ℕ) × IsLine l × (rest ≡ line_text l ++ 10 ∷ more)))
+    ⊎ ((f ≡ BadLine (length before + 1)) × ((bytes : List ℕ) × (more : List ℕ) × (rest ≡ bytes ++ 10 ∷ more) × Free 10 bytes × ((l : Line) → IsLine (layout_after before) l → bytes ≢ line_text l)))
+    ⊎ ((f ≡ BadOrder (length before + 1)) × ((l : Line) × (more : List ℕ) × IsLine (layout_after before) l × (rest ≡ line_text l ++ 10 ∷ more)))
 
 apart_ends : (rest bytes more : List ℕ) → Free 10 rest → rest ≡ bytes ++ 10 ∷ more → ⊥
 apart_ends rest bytes more h e =
     let P : List ℕ → Type 0 = λ t. Free 10 t in
     Free-not 10 bytes more (subst P e h)
 
-apart_forms : (rest bytes more more' : List ℕ) (l : Line) → Free 10 bytes → IsLine l → rest ≡ bytes ++ 10 ∷ more → rest ≡ line_text l ++ 10 ∷ more' → bytes ≡ line_text l
-apart_forms rest bytes more more' l h k d e = (cut 10 bytes (line_text l) more more' h (Free-line l k) (sym d ∙ e)).0
+apart_forms : (y : Layout) (rest bytes more more' : List ℕ) (l : Line) → Free 10 bytes → IsLine y l → rest ≡ bytes ++ 10 ∷ more → rest ≡ line_text l ++ 10 ∷ more' → bytes ≡ line_text l
+apart_forms y rest bytes more more' l h k d e = (cut 10 bytes (line_text l) more more' h (Free-line y l k) (sym d ∙ e)).0
 
 open_same : (before : List Line) (rest : List ℕ) (f g : ImageFault) → IsOpenStop before rest f → IsOpenStop before rest g → f ≡ g
 unfolding IsOpenStop
@@ -81,15 +101,15 @@ open_same before rest f g (inl a) (inr (inl b)) = absurd (apart_ends rest b.1.0 
 open_same before rest f g (inl a) (inr (inr b)) = absurd (apart_ends rest (line_text b.1.0) b.1.1 a.1 b.1.3)
 open_same before rest f g (inr (inl a)) (inl b) = absurd (apart_ends rest a.1.0 a.1.1 b.1 a.1.2)
 open_same before rest f g (inr (inl a)) (inr (inl b)) = a.0 ∙ sym b.0
-open_same before rest f g (inr (inl a)) (inr (inr b)) = absurd (a.1.4 b.1.0 b.1.2 (apart_forms rest a.1.0 a.1.1 b.1.1 b.1.0 a.1.3 b.1.2 a.1.2 b.1.3))
+open_same before rest f g (inr (inl a)) (inr (inr b)) = absurd (a.1.4 b.1.0 b.1.2 (apart_forms (layout_after before) rest a.1.0 a.1.1 b.1.1 b.1.0 a.1.3 b.1.2 a.1.2 b.1.3))
 open_same before rest f g (inr (inr a)) (inl b) = absurd (apart_ends rest (line_text a.1.0) a.1.1 b.1 a.1.3)
-open_same before rest f g (inr (inr a)) (inr (inl b)) = absurd (b.1.4 a.1.0 a.1.2 (apart_forms rest b.1.0 b.1.1 a.1.1 a.1.0 b.1.3 a.1.2 b.1.2 a.1.3))
+open_same before rest f g (inr (inr a)) (inr (inl b)) = absurd (b.1.4 a.1.0 a.1.2 (apart_forms (layout_after before) rest b.1.0 b.1.1 a.1.1 a.1.0 b.1.3 a.1.2 b.1.2 a.1.3))
 open_same before rest f g (inr (inr a)) (inr (inr b)) = a.0 ∙ sym b.0
 
 -- every line of an image was read
 IsWholeStop : List Line → List ℕ → Option ImageFault → Type 0
 IsWholeStop before rest v =
-    (es : List Entry) × (ws : List ℕ) × (before ≡ lines_of es ws) × (
+    (y : Layout) × (es : List Entry) × (ws : List ℕ) × (before ≡ lines_of y es ws) × (
     ((rest ≢ []) × (v ≡ Some (BadOrder (length before + 1))))
     ⊎ ((rest ≡ []) × (((k : ℕ) × IsFirstBad (length ws) es k × (v ≡ Some (BadOffset (k + 2))))
     ⊎ (All (λ e. IsOffset (length ws) e.offset) es × (v ≡ None)))))
@@ -146,10 +166,10 @@ ends_same es ws n rest v w (inr a) (inr b) = offsets_same es (length ws) v w a.1
 whole_same : (before : List Line) (rest : List ℕ) (v w : Option ImageFault) → IsWholeStop before rest v → IsWholeStop before rest w → v ≡ w
 unfolding IsWholeStop Ends
 whole_same before rest v w a b =
-    let parts = lines_of-injective b.0 a.0 b.1 a.1 (sym b.2 ∙ a.2) in
-    let P : List Entry → Type 0 = λ es. Ends es b.1 (length before) rest w in
-    let Q : List ℕ → Type 0 = λ ws. Ends a.0 ws (length before) rest w in
-    ends_same a.0 a.1 (length before) rest v w a.3 (subst Q parts.1 (subst P parts.0 b.3))
+    let parts = lines_of-injective b.0 a.0 b.1 a.1 b.2 a.2 (sym b.3 ∙ a.3) in
+    let P : List Entry → Type 0 = λ es. Ends es b.2 (length before) rest w in
+    let Q : List ℕ → Type 0 = λ ws. Ends a.1 ws (length before) rest w in
+    ends_same a.1 a.2 (length before) rest v w a.4 (subst Q parts.2 (subst P parts.1 b.4))
 
 -- ---- one verdict for each text
 
@@ -159,20 +179,20 @@ record Says (text : List ℕ) (v : Option ImageFault) : Type 0 where
   stops : Stops text before rest
   why : (All (λ l. l ≢ End) before × ((f : ImageFault) × (v ≡ Some f) × IsOpenStop before rest f)) ⊎ IsWholeStop before rest v
 
-no_end : (es : List Entry) (ws : List ℕ) (before : List Line) → All (λ l. l ≢ End) before → before ≡ lines_of es ws → ⊥
-no_end es ws before h e =
+no_end : (y : Layout) (es : List Entry) (ws : List ℕ) (before : List Line) → All (λ l. l ≢ End) before → before ≡ lines_of y es ws → ⊥
+no_end y es ws before h e =
     let P : List Line → Type 0 = λ ls. All (λ l. l ≢ End) ls in
-    let spread : lines_of es ws ≡ (Header ∷ (map Function es ++ Count (length ws) ∷ map Word ws)) ++ End ∷ [] =
-    ap (λ t. Header ∷ t) (sym (append_assoc (map Function es) (Count (length ws) ∷ map Word ws) (End ∷ []))) in
-    All-mid (λ l. l ≢ End) (Header ∷ (map Function es ++ Count (length ws) ∷ map Word ws)) [] End (subst P (e ∙ spread) h) refl
+    let spread : lines_of y es ws ≡ (Header y ∷ (map Function es ++ Count (length ws) ∷ map Word ws)) ++ End ∷ [] =
+    ap (λ t. Header y ∷ t) (sym (append_assoc (map Function es) (Count (length ws) ∷ map Word ws) (End ∷ []))) in
+    All-mid (λ l. l ≢ End) (Header y ∷ (map Function es ++ Count (length ws) ∷ map Word ws)) [] End (subst P (e ∙ spread) h) refl
 
 why_same : (before : List Line) (rest : List ℕ) (v w : Option ImageFault)
     → (All (λ l. l ≢ End) before × ((f : ImageFault) × (v ≡ Some f) × IsOpenStop before rest f)) ⊎ IsWholeStop before rest v
     → (All (λ l. l ≢ End) before × ((f : ImageFault) × (w ≡ Some f) × IsOpenStop before rest f)) ⊎ IsWholeStop before rest w → v ≡ w
 unfolding IsWholeStop
 why_same before rest v w (inl a) (inl b) = a.1.1 ∙ (ap (λ f. Some f) (open_same before rest a.1.0 b.1.0 a.1.2 b.1.2) ∙ sym b.1.1)
-why_same before rest v w (inl a) (inr b) = absurd (no_end b.0 b.1 before a.0 b.2)
-why_same before rest v w (inr a) (inl b) = absurd (no_end a.0 a.1 before b.0 a.2)
+why_same before rest v w (inl a) (inr b) = absurd (no_end b.0 b.1 b.2 before a.0 b.3)
+why_same before rest v w (inr a) (inl b) = absurd (no_end a.0 a.1 a.2 before b.0 a.3)
 why_same before rest v w (inr a) (inr b) = whole_same before rest v w a b
 
 says_same : (text : List ℕ) (v w : Option ImageFault) → Says text v → Says text w → v ≡ w
@@ -216,7 +236,7 @@ bad_line_says text n t =
         spelled = r.spelled;
         forms = r.forms;
         order = r.order;
-        stuck = λ l more h e b. t.formless l h (apart_forms (line t.bytes ++ t.rest) t.bytes t.rest more l free h (spread t.bytes t.rest) (e ∙ spread (line_text l) more));
+        stuck = λ l more h e b. t.formless l h (apart_forms (layout_after t.before) (line t.bytes ++ t.rest) t.bytes t.rest more l free h (spread t.bytes t.rest) (e ∙ spread (line_text l) more));
       };
       why = inl (r.going, (BadLine n, refl, inr (inl (ap BadLine r.number, (t.bytes, t.rest, spread t.bytes t.rest, free, t.formless)))));
     }
@@ -233,8 +253,8 @@ misplaced_says text n t =
         forms = r.forms;
         order = r.order;
         stuck = λ l more h e b.
-            let same = line_text-injective t.next l t.form h
-            (apart_forms (line (line_text t.next) ++ t.rest) (line_text t.next) t.rest more l (Free-line t.next t.form) h (spread (line_text t.next) t.rest) (e ∙ spread (line_text l) more)) in
+            let same = line_text-injective (layout_after t.before) (layout_after t.before) t.next l t.form h
+            (apart_forms (layout_after t.before) (line (line_text t.next) ++ t.rest) (line_text t.next) t.rest more l (Free-line (layout_after t.before) t.next t.form) h (spread (line_text t.next) t.rest) (e ∙ spread (line_text l) more)) in
             let P : Line → Type 0 = λ k. BeginsImage (t.before ++ k ∷ []) in
             t.misplaced (subst P (sym same) b);
       };
@@ -242,34 +262,34 @@ misplaced_says text n t =
     }
 
 -- behind a whole image's lines comes no line of an image
-whole_stops : (text : List ℕ) (es : List Entry) (ws rest : List ℕ) → text ≡ text_of (lines_of es ws) ++ rest → All IsLine (lines_of es ws) → HaveDifferentNames es
-    → Stops text (lines_of es ws) rest
-whole_stops text es ws rest e forms names = record {
+whole_stops : (text : List ℕ) (y : Layout) (es : List Entry) (ws rest : List ℕ) → text ≡ text_of (lines_of y es ws) ++ rest → All (IsLine y) (lines_of y es ws) → HaveDifferentNames es
+    → Stops text (lines_of y es ws) rest
+whole_stops text y es ws rest e forms names = record {
   spelled = e;
   forms = forms;
-  order = (es, ws, [], names, append-nil (lines_of es ws));
+  order = (y, es, ws, [], names, append-nil (lines_of y es ws));
   stuck = λ l more h same b.
-      let longer = sym b.4 ∙ append_assoc (lines_of es ws) (l ∷ []) b.2 in
-      let none = (lines_of-whole b.0 es b.1 ws (l ∷ b.2) longer).2 in
+      let longer = sym b.5 ∙ append_assoc (lines_of y es ws) (l ∷ []) b.3 in
+      let none = (lines_of-whole b.0 y b.1 es b.2 ws (l ∷ b.3) longer).3 in
       absurd cc;
 }
 
 behind_end_says : (text : List ℕ) (n : ℕ) → IsBehindEnd text n → Says text (Some (BadOrder n))
 unfolding IsWholeStop
 behind_end_says text n t = record {
-  before = lines_of t.entries t.code;
+  before = lines_of t.layout t.entries t.code;
   rest = t.rest;
-  stops = whole_stops text t.entries t.code t.rest t.spelled t.forms t.names;
-  why = inr (t.entries, t.code, refl, inl (t.more, ap (λ k. Some (BadOrder k)) t.number));
+  stops = whole_stops text t.layout t.entries t.code t.rest t.spelled t.forms t.names;
+  why = inr (t.layout, t.entries, t.code, refl, inl (t.more, ap (λ k. Some (BadOrder k)) t.number));
 }
 
 bad_offset_says : (text : List ℕ) (n : ℕ) → IsBadOffset text n → Says text (Some (BadOffset n))
 unfolding IsWholeStop
 bad_offset_says text n t = record {
-  before = lines_of t.entries t.code;
+  before = lines_of t.layout t.entries t.code;
   rest = [];
-  stops = whole_stops text t.entries t.code [] (t.spelled ∙ sym (append-nil (text_of (lines_of t.entries t.code)))) t.forms t.names;
-  why = inr (t.entries, t.code, refl, inr (refl, inl (t.place, (t.entry, t.there, t.bad, t.first), ap (λ k. Some (BadOffset k)) t.number)));
+  stops = whole_stops text t.layout t.entries t.code [] (t.spelled ∙ sym (append-nil (text_of (lines_of t.layout t.entries t.code)))) t.forms t.names;
+  why = inr (t.layout, t.entries, t.code, refl, inr (refl, inl (t.place, (t.entry, t.there, t.bad, t.first), ap (λ k. Some (BadOffset k)) t.number)));
 }
 
 fault_says : (text : List ℕ) (f : ImageFault) → IsFault text f → Says text (Some f)
@@ -284,10 +304,10 @@ unfolding IsWholeStop
 image_says text i e =
     let limits = i.in_limits in
     record {
-      before = lines_of i.entries i.code;
+      before = lines_of i.layout i.entries i.code;
       rest = [];
-      stops = whole_stops text i.entries i.code [] (e ∙ (image_text-lines i ∙ sym (append-nil (text_of (lines_of i.entries i.code))))) (IsLine-image i) limits.names;
-      why = inr (i.entries, i.code, refl, inr (refl, inr ((λ k d h. let one = limits.each k d h in (one.aligned, one.offset)), refl)));
+      stops = whole_stops text i.layout i.entries i.code [] (e ∙ (image_text-lines i ∙ sym (append-nil (text_of (lines_of i.layout i.entries i.code))))) (IsLine-image i) limits.names;
+      why = inr (i.layout, i.entries, i.code, refl, inr (refl, inr ((λ k d h. let one = limits.each k d h in (one.aligned, one.offset)), refl)));
     }
 
 pub one_fault : (text : List ℕ) (f g : ImageFault) → IsFault text f → IsFault text g → f ≡ g

@@ -2,6 +2,7 @@
 use Rattle.std.specs.Prelude.{ℕ, ◌≡◌, ◌≢◌, ◌+◌, ◌*◌, ◌%◌, ◌<◌, ◌⊎◌, List, [], ◌∷◌, ◌++◌, All, length, take, slice_get, Some}
 use Rattle.br_base.specs.declared.failure.OrMemory.{OrMemory}
 use Rattle.br_base.specs.declared.failure.OrMemory.TheVariants.{Memory, Fault}
+use Rattle.br_words.specs.declared.layout.Layout.{Layout}
 use Rattle.br_image.specs.declared.images.Entry.{Entry}
 use Rattle.br_image.specs.declared.lines.Line.{Line}
 use Rattle.br_image.specs.declared.lines.Line.TheVariants.{End}
@@ -9,18 +10,19 @@ use Rattle.br_image.specs.declared.faults.ImageFault.{ImageFault}
 use Rattle.br_image.specs.declared.faults.ImageFault.TheVariants.{BadLine, BadOrder, BadOffset, Truncated}
 use Rattle.br_image.specs.Limits.{HaveDifferentNames}
 use Rattle.br_image.specs.Text.{line}
-use Rattle.br_image.specs.Lines.{IsLine, line_text, text_of, lines_of}
+use Rattle.br_image.specs.Lines.{IsLine, layout_after, line_text, text_of, lines_of}
 use Rattle.br_image.specs.Forms.{Lacks}
 
 -- an image, its offsets aside, has these lines and then some more
 abbrev pub BeginsImage : List Line → Type 0
-BeginsImage lines = (entries : List Entry) × (code : List ℕ) × (more : List Line) × HaveDifferentNames entries × (lines ++ more ≡ lines_of entries code)
+BeginsImage lines =
+    (layout : Layout) × (entries : List Entry) × (code : List ℕ) × (more : List Line) × HaveDifferentNames entries × (lines ++ more ≡ lines_of layout entries code)
 
 -- lines that begin an image, none of them `end`, stand before line n, and rest is that line and what follows
 pub record Reaches (text : List ℕ) (n : ℕ) (before : List Line) (rest : List ℕ) : Type 0 where
   pub number : n ≡ length before + 1
   pub spelled : text ≡ text_of before ++ rest
-  pub forms : All IsLine before
+  pub forms : All (IsLine (layout_after before)) before
   pub order : BeginsImage before
   pub going : All (λ l. l ≢ End) before
 
@@ -31,25 +33,26 @@ pub record IsBadLine (text : List ℕ) (n : ℕ) : Type 0 where
   pub rest : List ℕ
   pub reaches : Reaches text n before (line bytes ++ rest)
   pub single : Lacks 10 bytes
-  pub formless : (l : Line) → IsLine l → bytes ≢ line_text l
+  pub formless : (l : Line) → IsLine (layout_after before) l → bytes ≢ line_text l
 
--- line n is the first with a fault, and no image has it behind the lines before it
+-- line n is the first with a fault, and no image has it after the lines before it
 pub record IsMisplaced (text : List ℕ) (n : ℕ) : Type 0 where
   pub before : List Line
   pub next : Line
   pub rest : List ℕ
   pub reaches : Reaches text n before (line (line_text next) ++ rest)
-  pub form : IsLine next
+  pub form : IsLine (layout_after before) next
   pub misplaced : ¬ BeginsImage (before ++ next ∷ [])
 
--- line n is the first behind `end`
+-- line n is the first after `end`
 pub record IsBehindEnd (text : List ℕ) (n : ℕ) : Type 0 where
+  pub layout : Layout
   pub entries : List Entry
   pub code : List ℕ
   pub rest : List ℕ
-  pub number : n ≡ length (lines_of entries code) + 1
-  pub spelled : text ≡ text_of (lines_of entries code) ++ rest
-  pub forms : All IsLine (lines_of entries code)
+  pub number : n ≡ length (lines_of layout entries code) + 1
+  pub spelled : text ≡ text_of (lines_of layout entries code) ++ rest
+  pub forms : All (IsLine layout) (lines_of layout entries code)
   pub names : HaveDifferentNames entries
   pub more : rest ≢ []
 
@@ -66,13 +69,14 @@ IsOffset words offset = (offset % 4 ≡ 0) × (offset < 4 * words)
 
 -- the text is an image's but for offsets, and line n is the first entry whose offset is not in the code
 pub record IsBadOffset (text : List ℕ) (n : ℕ) : Type 0 where
+  pub layout : Layout
   pub entries : List Entry
   pub code : List ℕ
   pub place : ℕ
   pub entry : Entry
   pub number : n ≡ place + 2
-  pub spelled : text ≡ text_of (lines_of entries code)
-  pub forms : All IsLine (lines_of entries code)
+  pub spelled : text ≡ text_of (lines_of layout entries code)
+  pub forms : All (IsLine layout) (lines_of layout entries code)
   pub names : HaveDifferentNames entries
   pub there : slice_get entries place ≡ Some entry
   pub bad : ¬ IsOffset (length code) entry.offset

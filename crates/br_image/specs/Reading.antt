@@ -1,5 +1,7 @@
 -- How far the reading of a text has come.
 use Rattle.std.specs.Prelude.{ℕ, ◌≡◌, ◌≢◌, ◌+◌, ◌<◌, ◌≤◌, ◌^◌, List, ◌∷◌, ◌++◌, All, length, map, drop, take, slice_get, Some}
+use Rattle.br_words.specs.declared.layout.Layout.{Layout}
+use Rattle.br_words.specs.Layout.{most_words}
 use Rattle.br_image.specs.Faults.{IsOffset}
 use Rattle.br_image.specs.declared.images.Entry.{Entry}
 use Rattle.br_image.specs.declared.lines.Line.{Line}
@@ -10,37 +12,37 @@ use Rattle.br_image.specs.Limits.{HaveDifferentNames}
 use Rattle.br_image.specs.Lines.{IsLine, IsEntryLine, line_text, text_of}
 use Rattle.br_image.specs.Forms.{Lacks}
 
--- the first line of the rest, which is line n, is no line
-abbrev pub IsLineFault : ℕ → List ℕ → ImageFault → Type 0
-IsLineFault n rest (BadLine m) = (m ≡ n) × (bytes : List ℕ) × (more : List ℕ) × (rest ≡ bytes ++ 10 ∷ more) × Lacks 10 bytes × ((l : Line) → IsLine l → bytes ≢ line_text l)
-IsLineFault n rest (BadOrder m) = ⊥
-IsLineFault n rest (BadOffset m) = ⊥
-IsLineFault n rest (Truncated m) = (m ≡ n) × Lacks 10 rest
+-- the first line of the rest, which is line n, is no line of a text whose layout is this
+abbrev pub IsLineFault : Layout → ℕ → List ℕ → ImageFault → Type 0
+IsLineFault layout n rest (BadLine m) = (m ≡ n) × (bytes : List ℕ) × (more : List ℕ) × (rest ≡ bytes ++ 10 ∷ more) × Lacks 10 bytes × ((l : Line) → IsLine layout l → bytes ≢ line_text l)
+IsLineFault layout n rest (BadOrder m) = ⊥
+IsLineFault layout n rest (BadOffset m) = ⊥
+IsLineFault layout n rest (Truncated m) = (m ≡ n) × Lacks 10 rest
 
 -- the first line and lines of these entries
-abbrev pub entries_read : List Entry → List Line
-entries_read entries = Header ∷ map Function entries
+abbrev pub entries_read : Layout → List Entry → List Line
+entries_read layout entries = Header layout ∷ map Function entries
 
 -- the bytes before a place are the first line and lines of these entries
-pub record EntriesRead (text : List ℕ) (entries : List Entry) (at : ℕ) : Type 0 where
+pub record EntriesRead (layout : Layout) (text : List ℕ) (entries : List Entry) (at : ℕ) : Type 0 where
   pub within : at ≤ length text
   pub many : length entries < at
-  pub spelled : text ≡ text_of (entries_read entries) ++ drop at text
+  pub spelled : text ≡ text_of (entries_read layout entries) ++ drop at text
   pub forms : All IsEntryLine entries
   pub names : HaveDifferentNames entries
 
 -- those lines, the number of words and lines of these words
-abbrev pub words_read : List Entry → ℕ → List ℕ → List Line
-words_read entries count code = Header ∷ (map Function entries ++ Count count ∷ map Word code)
+abbrev pub words_read : Layout → List Entry → ℕ → List ℕ → List Line
+words_read layout entries count code = Header layout ∷ (map Function entries ++ Count count ∷ map Word code)
 
 -- the bytes before a place are those lines
-pub record WordsRead (text : List ℕ) (entries : List Entry) (count : ℕ) (code : List ℕ) (at : ℕ) : Type 0 where
+pub record WordsRead (layout : Layout) (text : List ℕ) (entries : List Entry) (count : ℕ) (code : List ℕ) (at : ℕ) : Type 0 where
   pub within : at ≤ length text
   pub many : length entries + length code < at
-  pub spelled : text ≡ text_of (words_read entries count code) ++ drop at text
+  pub spelled : text ≡ text_of (words_read layout entries count code) ++ drop at text
   pub forms : All IsEntryLine entries
   pub names : HaveDifferentNames entries
-  pub counted : count ≤ 262144
+  pub counted : count ≤ most_words layout
   pub words : All (λ w. w < 2 ^ 32) code
   pub few : length code ≤ count
 

@@ -1,6 +1,8 @@
 -- The lines of an image's text.
 use Rattle.std.specs.Prelude.{ℕ, ◌+◌, ◌/◌, ◌%◌, nat_lt, if◌then◌else◌, List, [], ◌∷◌, ◌++◌, codes}
 use Rattle.std.specs.Fmt.{decimal}
+use Rattle.br_words.specs.declared.layout.Layout.{Layout}
+use Rattle.br_words.specs.declared.layout.Layout.TheVariants.{One, Two}
 use Rattle.br_image.specs.declared.images.Entry.{Entry}
 
 -- a lower-case hexadecimal digit
@@ -12,6 +14,15 @@ abbrev pub word_text : ℕ → List ℕ
 word_text w =
     hex_digit (w / 268435456 % 16) ∷ hex_digit (w / 16777216 % 16) ∷ hex_digit (w / 1048576 % 16) ∷ hex_digit (w / 65536 % 16)
     ∷ hex_digit (w / 4096 % 16) ∷ hex_digit (w / 256 % 16) ∷ hex_digit (w / 16 % 16) ∷ hex_digit (w % 16) ∷ []
+
+-- the version of the text
+abbrev pub version_text : Layout → List ℕ
+version_text One = codes "1"
+version_text Two = codes "2"
+
+-- what stands in the first line
+abbrev pub header_text : Layout → List ℕ
+header_text layout = codes "brimage " ++ version_text layout
 
 -- what stands in an entry's line, the fields parted by one space
 abbrev pub entry_text : Entry → List ℕ

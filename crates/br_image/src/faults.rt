@@ -12,7 +12,7 @@ pub enum ImageFault {
     /// The line may not stand there, or an earlier entry has its name, or it follows `end`.
     #[error("line {0} may not stand there")]
     BadOrder(u32),
-    /// The first entry whose offset is no multiple of 4 or lies behind the code. It comes only
+    /// The first entry whose offset is no multiple of 4 or lies past the code. It comes only
     /// where no line has another fault.
     #[error("the offset in line {0} is not in the code")]
     BadOffset(u32),

@@ -3,6 +3,7 @@
 ghost use Rattle.br_image.specs.Limits.{InLimits};
 
 use br_base::Name;
+use br_words::Layout;
 use sqlite_items::Items;
 
 /// Where a function of a program begins in the code, and what a caller has to know of it.
@@ -20,10 +21,12 @@ pub struct Entry {
     pub need: u32,
 }
 
-/// A compiled program: its functions in the order of the text, and the words of its code.
+/// A compiled program: where its code stands, its functions in the order of the text, and the words
+/// of its code.
 #[derive(Debug, Drop)]
 pub struct Image {
+    pub layout: Layout,
     pub entries: Items<Entry>,
     pub code: Items<u32>,
-    pub ghost in_limits: { InLimits entries code },
+    pub ghost in_limits: { InLimits layout entries code },
 }

@@ -1,12 +1,13 @@
 // The lines that an image's text is made of.
 
 use crate::images::Entry;
+use br_words::Layout;
 
 /// A line of an image's text.
 #[derive(Debug, Drop)]
 pub enum Line {
-    /// `brimage 1`.
-    Header,
+    /// `brimage 1` for layout One, `brimage 2` for layout Two.
+    Header(Layout),
     /// `entry NAME ARGS RESULTS OFFSET NEED`.
     Function(Entry),
     /// `code N`.

@@ -1,8 +1,11 @@
 // Reading one line of an image's text.
 
-ghost use Rattle.std.specs.Prelude.{◌≡◌, ◌≢◌, ◌+◌, ◌<◌, ◌≤◌, ◌^◌, ◌++◌, ◌∷◌, ℕ, List, IfSome, IfNone, IfOk, MatchOption, codes};
+ghost use Rattle.std.specs.Prelude.{◌≡◌, ◌≢◌, ◌+◌, ◌*◌, ◌<◌, ◌≤◌, ◌^◌, ◌++◌, ◌∷◌, ℕ, List, IfSome, IfNone, IfOk, MatchOption, codes};
 ghost use Rattle.std.specs.Fmt.{decimal};
 ghost use Rattle.std.specs.Str.Parse.{AllDigits, digits_value};
+ghost use Rattle.br_words.specs.declared.layout.Layout.{Layout};
+ghost use Rattle.br_words.specs.declared.layout.Layout.TheVariants.{Two};
+ghost use Rattle.br_words.specs.Layout.{most_words, most_stack};
 ghost use Rattle.br_image.specs.Text.{word_text};
 ghost use Rattle.br_base.specs.Name.{IsName};
 ghost use Rattle.br_image.specs.declared.images.Entry.{Entry};
@@ -13,25 +16,31 @@ use crate::images::Entry;
 use crate::lines::Line;
 use crate::printing::word_digits;
 use br_base::{Name, NoMemory};
+use br_words::{Layout, STACK_BASE, STACK_END};
 use std::alloc::Global;
 
-/// The most words of code that an image has.
-const MOST_WORDS: u32 = 262_144;
+/// The most bytes of stack that an entry may state: the stack region.
+const MOST_STACK: u32 = STACK_END - STACK_BASE;
 
-/// The line that these bytes are. None where they are of none of the five forms.
-pub(crate) fn parse_line(alloc: Global, bytes: &[u8]) -> Result<Option<Line>, NoMemory>
-    ensures { IfOk result (IsLineOf bytes.now) }
+/// The line that these bytes are in a text whose layout is this. None where they are of none of the
+/// five forms.
+pub(crate) fn parse_line(
+    alloc: Global,
+    layout: Layout,
+    bytes: &[u8],
+) -> Result<Option<Line>, NoMemory>
+    ensures { IfOk result (IsLineOf layout bytes.now) }
 {
     match cut(bytes, b' ') {
         None => Ok(parse_single(bytes)),
-        Some((first, rest)) => parse_worded(alloc, first, rest),
+        Some((first, rest)) => parse_worded(alloc, layout, first, rest),
     }
 }
 
 /// The line that bytes with no space in them are.
 fn parse_single(bytes: &[u8]) -> Option<Line>
     requires { Lacks 32 bytes.now }
-    ensures { IsLineOf bytes.now result }
+    ensures { (layout : Layout) → IsLineOf layout bytes.now result }
 {
     if bytes == b"end".as_slice() {
         return Some(Line::End);
@@ -40,9 +49,14 @@ fn parse_single(bytes: &[u8]) -> Option<Line>
 }
 
 /// The line that begins with this word and a space, and goes on with the rest.
-fn parse_worded(alloc: Global, first: &[u8], rest: &[u8]) -> Result<Option<Line>, NoMemory>
+fn parse_worded(
+    alloc: Global,
+    layout: Layout,
+    first: &[u8],
+    rest: &[u8],
+) -> Result<Option<Line>, NoMemory>
     requires { Lacks 32 first.now }
-    ensures { IfOk result (IsLineOf (first.now ++ 32 ∷ rest.now)) }
+    ensures { IfOk result (IsLineOf layout (first.now ++ 32 ∷ rest.now)) }
 {
     if first == b"brimage".as_slice() {
         return Ok(parse_version(rest));
@@ -51,20 +65,22 @@ fn parse_worded(alloc: Global, first: &[u8], rest: &[u8]) -> Result<Option<Line>
         return Ok(parse_entry(alloc, rest)?.map(Line::Function));
     }
     if first == b"code".as_slice() {
-        return Ok(parse_number(rest, MOST_WORDS).map(Line::Count));
+        return Ok(parse_number(rest, layout.most_words()).map(Line::Count));
     }
     Ok(None)
 }
 
 /// The line whose first word is `brimage`.
 fn parse_version(rest: &[u8]) -> Option<Line>
-    ensures { IsLineOf (codes "brimage" ++ 32 ∷ rest.now) result }
+    ensures { (layout : Layout) → IsLineOf layout (codes "brimage" ++ 32 ∷ rest.now) result }
 {
     if rest == b"1".as_slice() {
-        Some(Line::Header)
-    } else {
-        None
+        return Some(Line::Header(Layout::One));
     }
+    if rest == b"2".as_slice() {
+        return Some(Line::Header(Layout::Two));
+    }
+    None
 }
 
 /// The entry whose name and numbers these bytes are, with one space between two of them.
@@ -100,14 +116,14 @@ struct Numbers {
 }
 
 fn parse_numbers(bytes: &[u8]) -> Option<Numbers>
-    ensures ranges { IfSome result (λ n. (n.args ≤ 8) × (n.results ≤ 8) × (n.offset < 4194304) × (n.need ≤ 1048576)) }
+    ensures ranges { IfSome result (λ n. (n.args ≤ 8) × (n.results ≤ 8) × (n.offset < 4 * most_words Two) × (n.need ≤ most_stack)) }
     ensures found { IfSome result (λ n. bytes.now ≡ numbers_text n.args n.results n.offset n.need) }
-    ensures none { IfNone result ((a r o n : ℕ) → a ≤ 8 → r ≤ 8 → o < 4194304 → n ≤ 1048576 → bytes.now ≢ numbers_text a r o n) }
+    ensures none { IfNone result ((a r o n : ℕ) → a ≤ 8 → r ≤ 8 → o < 4 * most_words Two → n ≤ most_stack → bytes.now ≢ numbers_text a r o n) }
 {
     let (args, rest) = parse_field(bytes, 8)?;
     let (results, rest) = parse_field(rest, 8)?;
-    let (offset, rest) = parse_field(rest, 4_194_303)?;
-    let need = parse_number(rest, 1_048_576)?;
+    let (offset, rest) = parse_field(rest, 4 * Layout::Two.most_words() - 1)?;
+    let need = parse_number(rest, MOST_STACK)?;
     Some(Numbers {
         args,
         results,
@@ -116,7 +132,7 @@ fn parse_numbers(bytes: &[u8]) -> Option<Numbers>
     })
 }
 
-/// A number and the space behind it, and what follows.
+/// A number and the space after it, and what follows.
 fn parse_field(bytes: &[u8], most: u32) -> Option<(u32, &[u8])>
     ensures found { IfSome result (λ p. (p.0 ≤ most) × (bytes.now ≡ decimal p.0 ++ 32 ∷ p.1.now)) }
     ensures none { IfNone result ((n : ℕ) (rest : List ℕ) → n ≤ most → bytes.now ≢ decimal n ++ 32 ∷ rest) }
@@ -126,7 +142,7 @@ fn parse_field(bytes: &[u8], most: u32) -> Option<(u32, &[u8])>
     Some((number, rest))
 }
 
-/// What stands before the first separator, and what stands behind it.
+/// What stands before the first separator, and what stands after it.
 pub(crate) fn cut(bytes: &[u8], separator: u8) -> Option<(&[u8], &[u8])>
     ensures found { IfSome result (λ p. (bytes.now ≡ p.0.now ++ separator ∷ p.1.now) × Lacks separator p.0.now) }
     ensures none { IfNone result (Lacks separator bytes.now) }

@@ -2,14 +2,15 @@
 
 ghost use Rattle.std.specs.Prelude.{◌≡◌, ◌++◌, ◌∷◌, [], ◌<◌, IfOk, OnOk};
 ghost use Rattle.std.specs.Fmt.{decimal};
-ghost use Rattle.br_image.specs.Text.{entry_text, word_text, line};
+ghost use Rattle.br_image.specs.Text.{header_text, entry_text, word_text, line};
 ghost use Rattle.br_image.specs.Printed.{entry_lines, word_lines, image_text};
 
 use crate::images::{Entry, Image};
 use br_base::NoMemory;
+use br_words::Layout;
 use std::alloc::Global;
 
-/// The text of an image: `brimage 1`, a line `entry NAME ARGS RESULTS OFFSET NEED` for each
+/// The text of an image: `brimage 1` for layout One or `brimage 2` for layout Two, a line `entry NAME ARGS RESULTS OFFSET NEED` for each
 /// function, `code N`, the N words of code in a line each, and `end`. Each line ends in one line
 /// feed. Numbers are decimal, and words are eight hexadecimal digits in lower case.
 #[tactic(auto, unfolding(crate::specs::Printed::image_text))]
@@ -17,7 +18,7 @@ pub fn print(alloc: Global, image: &Image) -> Result<Vec<u8>, NoMemory>
     ensures { IfOk result (λ text. text.items ≡ image_text image.now) }
 {
     let mut text = Vec::new(alloc);
-    text.extend_from_slice(b"brimage 1\n")?;
+    print_header(&mut text, image.layout)?;
     print_entries(alloc, &mut text, image.entries.as_slice())?;
     text.extend_from_slice(b"code ")?;
     print_number(alloc, &mut text, image.code.len())?;
@@ -25,6 +26,16 @@ pub fn print(alloc: Global, image: &Image) -> Result<Vec<u8>, NoMemory>
     print_words(&mut text, image.code.as_slice())?;
     text.extend_from_slice(b"end\n")?;
     Ok(text)
+}
+
+fn print_header(text: &mut Vec<u8>, layout: Layout) -> Result<(), NoMemory>
+    ensures { OnOk result (text.new.items ≡ text.old.items ++ line (header_text layout)) }
+{
+    match layout {
+        Layout::One => text.extend_from_slice(b"brimage 1\n")?,
+        Layout::Two => text.extend_from_slice(b"brimage 2\n")?,
+    }
+    Ok(())
 }
 
 fn print_entries(alloc: Global, text: &mut Vec<u8>, entries: &[Entry]) -> Result<(), NoMemory>

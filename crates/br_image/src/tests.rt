@@ -2,14 +2,15 @@
 
 use crate::{Entry, Image, ImageFault, print, read};
 use br_base::{Name, NoMemory, OrMemory};
+use br_words::Layout;
 use sqlite_items::Items;
 use std::alloc::Global;
 use std::test::Fail;
 
-/// An image of one function that stores into its own code.
-const TWO_WORDS: &str = "brimage 1\nentry main 0 0 0 0\ncode 2\n00000297\n0052a023\nend\n";
+/// The text of an image of one function that stores into its own code, without the version.
+const TWO_WORDS: &str = "entry main 0 0 0 0\ncode 2\n00000297\n0052a023\nend\n";
 
-fn two_words(alloc: Global, name: Name) -> Result<Image, NoMemory> {
+fn two_words(alloc: Global, layout: Layout, name: Name) -> Result<Image, NoMemory> {
     let mut entries = Items::new(alloc);
     entries.push(Entry {
         name,
@@ -21,15 +22,22 @@ fn two_words(alloc: Global, name: Name) -> Result<Image, NoMemory> {
     let mut code = Items::new(alloc);
     code.push(0x0000_0297)?;
     code.push(0x0052_a023)?;
-    Ok(Image { entries, code })
+    Ok(Image {
+        layout,
+        entries,
+        code,
+    })
 }
 
 #[test]
 fn an_image_is_printed(rt: HostRuntime) -> Result<(), Fail> {
-    let name = Name::from_bytes(Vec::from_slice(rt.alloc(), b"main")?).ok_or("no name")?;
-    let image = two_words(rt.alloc(), name)?;
-    let text = print(rt.alloc(), &image)?;
-    assert_eq!(rt; text.as_slice(), TWO_WORDS.as_bytes());
+    for (layout, version) in [(Layout::One, 1), (Layout::Two, 2)] {
+        let name = Name::from_bytes(Vec::from_slice(rt.alloc(), b"main")?).ok_or("no name")?;
+        let image = two_words(rt.alloc(), layout, name)?;
+        let text = print(rt.alloc(), &image)?;
+        let lines = format!(in rt.alloc(); "brimage {version}\n{TWO_WORDS}")?;
+        assert_eq!(rt; text.as_slice(), lines.as_bytes());
+    }
     Ok(())
 }
 
@@ -47,7 +55,8 @@ fn fault_of(alloc: Global, text: &[u8]) -> Result<Option<ImageFault>, NoMemory> 
 
 #[test]
 fn each_front_is_truncated(rt: HostRuntime) -> Result<(), Fail> {
-    let text = TWO_WORDS.as_bytes();
+    let text = format!(in rt.alloc(); "brimage 2\n{TWO_WORDS}")?;
+    let text = text.as_bytes();
     let mut line = 1u32;
     for (n, byte) in text.iter().enumerate() {
         assert_eq!(rt;
@@ -65,11 +74,13 @@ fn each_front_is_truncated(rt: HostRuntime) -> Result<(), Fail> {
 #[test]
 fn lines_of_no_form(rt: HostRuntime) -> Result<(), Fail> {
     let lines = [
-        "brimage 2",
+        "brimage 3",
+        "brimage 01",
         "brimage 1 ",
         "entry f 9 0 0 0",
         "entry f 0 9 0 0",
         "entry f 0 0 4194304 0",
+        "entry f 0 0 00000004194304 0",
         "entry f 0 0 0 1048577",
         "entry 1f 0 0 0 0",
         "entry  0 0 0 0",
@@ -140,13 +151,28 @@ fn faults(rt: HostRuntime) -> Result<(), Fail> {
         let text = format!(in rt.alloc(); "brimage 1\n{lines}")?;
         assert_eq!(rt; fault_of(rt.alloc(), text.as_bytes())?, *fault);
     }
-    assert_eq!(rt;
-        fault_of(rt.alloc(), b"code 0\n")?,
-        Some(ImageFault::BadOrder(1))
-    );
-    assert_eq!(rt;
-        fault_of(rt.alloc(), b"brimage 01\n")?,
-        Some(ImageFault::BadLine(1))
-    );
+    Ok(())
+}
+
+#[test]
+fn versions(rt: HostRuntime) -> Result<(), Fail> {
+    let cases = [
+        ("brimage 1\ncode 262145\n", ImageFault::BadLine(2)),
+        ("brimage 1\ncode 262145", ImageFault::Truncated(2)),
+        ("brimage 2\ncode 262145\n", ImageFault::Truncated(3)),
+        ("brimage 2\ncode 1048576\n", ImageFault::Truncated(3)),
+        ("brimage 2\ncode 1048577\n", ImageFault::BadLine(2)),
+        ("brimage 1\ncode 0\ncode 262145\n", ImageFault::BadLine(3)),
+        ("brimage 2\nbrimage 1\n", ImageFault::BadOrder(2)),
+        // Without a version the first line alone is at fault.
+        ("code 262145\n", ImageFault::BadOrder(1)),
+        ("code 1048577\n", ImageFault::BadLine(1)),
+        ("code 0\n", ImageFault::BadOrder(1)),
+        ("brimage 01\n", ImageFault::BadLine(1)),
+        ("brimage\n", ImageFault::BadLine(1)),
+    ];
+    for (text, fault) in &cases {
+        assert_eq!(rt; fault_of(rt.alloc(), text.as_bytes())?, Some(*fault));
+    }
     Ok(())
 }

@@ -15,24 +15,23 @@ use br_rv32im::{decode, listing};
 use std::alloc::Global;
 use std::collections::BTreeMap;
 
-/// The address of the first word of code.
-const CODE_START: u32 = 0x8000_0000;
-
 /// The listing of an image: for each word of code a line with its address, the word and its
 /// instruction, as `80000004 0052a023 sw x5, 0(x5)`. Where the word is none of the instructions
 /// that `br_rv32im` decodes, `.word` stands for the instruction. Before the line of a word stands a
 /// line `NAME:` for each function that begins there, in the order of the entries. Addresses and
-/// words are eight hexadecimal digits in lower case, and each line ends in one line feed.
+/// words are eight hexadecimal digits in lower case, and each line ends in one line feed. The first
+/// word stands at the code base of the image's layout.
 #[tactic(auto, unfolding(crate::specs::Text::list_text))]
 pub fn list(alloc: Global, image: &Image) -> Result<Vec<u8>, NoMemory>
     ensures { IfOk result (λ text. text.items ≡ list_text image.now) }
 {
     let labels = labels_by_offset(alloc, image.entries.as_slice())?;
+    let base = image.layout.code_base();
     let mut text = Vec::new(alloc);
     for (place, word) in image.code.as_slice().iter().enumerate() {
         let offset = 4 * place as u32;
         list_labels(&mut text, &labels, offset)?;
-        list_word(alloc, &mut text, CODE_START + offset, *word)?;
+        list_word(alloc, &mut text, base + offset, *word)?;
     }
     Ok(text)
 }

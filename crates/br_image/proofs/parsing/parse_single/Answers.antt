@@ -6,8 +6,8 @@ use Rattle.br_image.proofs.Fields.{mapped, line_single, differ}
 use Rattle.br_image.proofs.parsing.parse_single.Goals as goal
 
 pub returns : goal.returns
-returns c =
-    let P : Option Line → Type 0 = λ o. IsLineOf c.args.bytes.now o in
+returns c y =
+    let P : Option Line → Type 0 = λ o. IsLineOf y c.args.bytes.now o in
     subst P (sym (mapped Word c.parse_word.result c.map.result c.map.ensures.cases))
-    (line_single c.args.bytes.now c.parse_word.result c.requires (differ c.args.bytes.now c.as_slice.result.now _ c.if-eq.ensures c.as_slice.ensures)
+    (line_single y c.args.bytes.now c.parse_word.result c.requires (differ c.args.bytes.now c.as_slice.result.now _ c.if-eq.ensures c.as_slice.ensures)
     c.parse_word.ensures.found c.parse_word.ensures.none)
