@@ -1,2 +1,5 @@
 pub mod Composes
 pub mod Matches
+pub mod Live
+pub mod Covers
+pub mod Renamed

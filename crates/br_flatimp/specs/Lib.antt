@@ -7,3 +7,4 @@ pub mod Liveness
 pub mod Missed
 pub mod Sizes
 pub mod Matches
+pub mod Renaming

@@ -8,7 +8,7 @@ use Rattle.br_flatimp.specs.declared.program.Stmt.TheOpen.{Stmt-F}
 use Rattle.br_flatimp.specs.declared.program.Stmt.TheFolds.{fold-Stmt}
 use Rattle.br_flatimp.specs.declared.program.FlatFunc.{FlatFunc}
 use Rattle.br_flatimp.specs.Values.{Names}
-use Rattle.br_flatimp.specs.Parts.{written, read, test_names}
+use Rattle.br_flatimp.specs.Parts.{written, read, test_names, own_callees}
 
 -- ---- sets of names
 
@@ -33,8 +33,9 @@ Within a b = (x : ℕ) → IsTrue (a x) → IsTrue (b x)
 
 -- what liveness says of a statement, when it is known what is live after it
 pub record Moment : Type 0 where
-  -- the names that it writes
+  -- the names that it writes, and the function that it calls itself, if any
   pub written : List ℕ
+  pub callees : List ℕ
   -- it is a Lit, Copy, Op, Load or Table
   pub is_removable : Bool
   pub is_copy : Bool
@@ -133,6 +134,7 @@ inner_points y after = []
 abbrev pub moment : Stmt-F Live → Names → Moment
 moment y after = record {
   written = written y;
+  callees = own_callees y;
   is_removable = is_removable y;
   is_copy = is_copy y;
   after = after;

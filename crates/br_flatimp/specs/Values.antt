@@ -2,6 +2,7 @@
 use Rattle.std.specs.Prelude.{ℕ, Bool, not, List, [], ◌∷◌, Option, Some, None, ℤ, int_lt, nat_lt, ◌==◌, if◌then◌else◌}
 use Rattle.br_words.specs.Words.{signed, wrapped, flag, value_of_op}
 use Rattle.br_words.specs.declared.operation.BinOp.TheVariants as op
+use Rattle.br_bytes.specs.Memory.{in_front}
 use Rattle.br_flatimp.specs.declared.program.Operand.{Operand}
 use Rattle.br_flatimp.specs.declared.program.Operand.TheVariants as operand
 use Rattle.br_flatimp.specs.declared.program.Rel.{Rel}
@@ -24,25 +25,21 @@ no_locals x = None
 abbrev pub with_local : ℕ → ℕ → Locals → Locals
 with_local x v locals y = if y == x then Some v else locals y
 
--- names set to words in turn. A well formed program has as many words here as names.
-abbrev pub with_locals : List ℕ → List ℕ → Locals → Locals
-with_locals (x ∷ xs) (v ∷ vs) locals = with_locals xs vs (with_local x v locals)
-with_locals [] vs locals = locals
-with_locals (x ∷ xs) [] locals = locals
-
 -- the names of a set are not set
 abbrev pub without_names : Names → Locals → Locals
 without_names set locals y = if set y then None else locals y
 
+-- Names set to words in turn, and not set where no word is left. A well formed program has as many words
+-- here as names.
+abbrev pub with_locals : List ℕ → List ℕ → Locals → Locals
+with_locals [] vs locals = locals
+with_locals (x ∷ xs) (v ∷ vs) locals = with_locals xs vs (with_local x v locals)
+with_locals (x ∷ xs) [] locals = with_locals xs [] (without_names (λ y. y == x) locals)
+
 -- the words of names in turn, or None where one is not set
 abbrev pub words_of : List ℕ → Locals → Option (List ℕ)
 words_of [] locals = Some []
-words_of (x ∷ xs) locals = joined (locals x) (words_of xs locals)
-  where
-    joined : Option ℕ → Option (List ℕ) → Option (List ℕ)
-    joined (Some v) (Some vs) = Some (v ∷ vs)
-    joined (Some v) None = None
-    joined None vs = None
+words_of (x ∷ xs) locals = in_front (locals x) (words_of xs locals)
 
 -- a constant counts modulo 2 ^ 32
 abbrev pub operand_word : Operand → Locals → Option ℕ
