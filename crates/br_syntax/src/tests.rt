@@ -52,8 +52,14 @@ fn the_lowest_fault(rt: HostRuntime) -> Result<(), Fail> {
         ("(fn f () () (set x))", ShapeFault::BadForm(12)),
         ("(fn f () () (then))", ShapeFault::BadForm(12)),
         ("(fn f () (r) (set r (ite 1 2)))", ShapeFault::BadForm(20)),
-        ("(fn f () (r) (set r (ite 1 2 3 4)))", ShapeFault::BadForm(20)),
-        ("(fn f () (r) (set r (ite 1 () (x))))", ShapeFault::BadForm(27)),
+        (
+            "(fn f () (r) (set r (ite 1 2 3 4)))",
+            ShapeFault::BadForm(20),
+        ),
+        (
+            "(fn f () (r) (set r (ite 1 () (x))))",
+            ShapeFault::BadForm(27),
+        ),
         ("(fn f () () (ite 1 2 3))", ShapeFault::BadForm(12)),
         ("(fn f () () (if 1 (then) (then)))", ShapeFault::BadForm(25)),
         ("(fn f () () (stackalloc x 6))", ShapeFault::BadSize(26)),
