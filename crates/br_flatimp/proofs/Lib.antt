@@ -3,3 +3,4 @@ pub mod Matches
 pub mod Live
 pub mod Covers
 pub mod Renamed
+pub mod Programs
