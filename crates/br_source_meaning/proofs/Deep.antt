@@ -7,13 +7,15 @@ use Rattle.br_syntax.specs.declared.program.Cmd.TheVariants.{While}
 use Rattle.br_syntax.specs.declared.program.Func.{Func}
 use Rattle.br_syntax.specs.Functions.{function_named}
 use Rattle.br_source_meaning.specs.Values.{Name, value}
-use Rattle.br_source_meaning.specs.Runs.{State, End, Run, Goes, Ends, then_do, with_defined, choose, with_fuel, back_in, run, run_all}
+use Rattle.br_source_meaning.specs.Runs.{State, End, Run, Goes, Ends, then_do, with_defined, choose, with_fuel, with_locals, back_in, run, run_all}
 use Rattle.br_source_meaning.specs.Calls.{enter, function_of, run_function}
-use Rattle.br_source_meaning.specs.Left.{OnlyTakes}
+use Rattle.br_bytes.specs.Left.{OnlyTakes}
+use Rattle.br_bytes.proofs.Widens.{AlikeCalls, fuel-goes}
+use Rattle.br_bytes.proofs.Given.{none, widen-none, same-alike_calls}
 use Rattle.br_source_meaning.specs.Running.{deep_calls}
 use Rattle.br_source_meaning.proofs.Leaves.{leaves-run_all, leaves-function_of}
-use Rattle.br_source_meaning.proofs.Widens.{AlikeCalls, alike-run_function, alike-deeper, fuel-goes}
-use Rattle.br_source_meaning.proofs.Bounds.{none, widen-none, same-alike_calls, unfold-while, unfold-function_of}
+use Rattle.br_source_meaning.proofs.Widens.{alike-run_function, alike-deeper}
+use Rattle.br_source_meaning.proofs.Bounds.{unfold-while, unfold-function_of}
 
 pub deep-takes : (fs : List Func) → OnlyTakes (deep_calls fs)
 unfolding deep_calls
@@ -71,11 +73,11 @@ turns-less fs body s t u spent went =
     omega (arith, less-spent s t spent, fuel-goes t (run_all (deep_calls fs) body t) u (leaves-run_all (deep_calls fs) (deep-takes fs) body t) went)
 
 -- a call enters the function that it names
-pub call-enters : (fs : List Func) (xs : List Name) (f : Name) (o : Option (List ℕ)) (vs : List ℕ) (s t : State) → o ≡ Some vs → with_fuel s Goes ≡ Goes t → t.fuel < 2 ^ 32 → with_defined o s (λ vs. with_fuel s (λ t. back_in xs s.locals (deep_calls fs f vs t))) ≡ back_in xs s.locals (enter (deep_calls fs) (function_named fs f) vs t)
+pub call-enters : (fs : List Func) (xs : List Name) (f : Name) (o : Option (List ℕ)) (vs : List ℕ) (s t : State) → o ≡ Some vs → with_fuel s Goes ≡ Goes t → t.fuel < 2 ^ 32 → with_defined o s (λ vs. with_fuel s (λ t. back_in (with_locals xs) s.locals (deep_calls fs f vs t))) ≡ back_in (with_locals xs) s.locals (enter (deep_calls fs) (function_named fs f) vs t)
 call-enters fs xs f o vs s t is spent small =
-    ap (λ o. with_defined o s (λ vs. with_fuel s (λ t. back_in xs s.locals (deep_calls fs f vs t)))) is
-    ∙ spent-then s t (λ t. back_in xs s.locals (deep_calls fs f vs t)) spent
-    ∙ ap (back_in xs s.locals) (deep-enters fs f vs t small)
+    ap (λ o. with_defined o s (λ vs. with_fuel s (λ t. back_in (with_locals xs) s.locals (deep_calls fs f vs t)))) is
+    ∙ spent-then s t (λ t. back_in (with_locals xs) s.locals (deep_calls fs f vs t)) spent
+    ∙ ap (back_in (with_locals xs) s.locals) (deep-enters fs f vs t small)
 
 spend-locals : (n : ℕ) (s t : State) → with_fuel (record s { fuel = n }) Goes ≡ Goes t → t.locals ≡ s.locals
 spend-locals zero s t e = cc
@@ -85,9 +87,9 @@ pub spent-locals : (s t : State) → with_fuel s Goes ≡ Goes t → t.locals �
 spent-locals s t e = spend-locals s.fuel s t e
 
 -- a call of a function that there is, and what it does
-pub call-runs : (fs : List Func) (xs : List Name) (f : Name) (o : Option (List ℕ)) (vs : List ℕ) (s t : State) (g : Func) → o ≡ Some vs → with_fuel s Goes ≡ Goes t → t.fuel < 2 ^ 32 → function_named fs f ≡ Some g → with_defined o s (λ vs. with_fuel s (λ t. back_in xs s.locals (deep_calls fs f vs t))) ≡ back_in xs s.locals (run_function (deep_calls fs) g vs t)
+pub call-runs : (fs : List Func) (xs : List Name) (f : Name) (o : Option (List ℕ)) (vs : List ℕ) (s t : State) (g : Func) → o ≡ Some vs → with_fuel s Goes ≡ Goes t → t.fuel < 2 ^ 32 → function_named fs f ≡ Some g → with_defined o s (λ vs. with_fuel s (λ t. back_in (with_locals xs) s.locals (deep_calls fs f vs t))) ≡ back_in (with_locals xs) s.locals (run_function (deep_calls fs) g vs t)
 call-runs fs xs f o vs s t g is spent small named =
-    call-enters fs xs f o vs s t is spent small ∙ ap (λ o. back_in xs s.locals (enter (deep_calls fs) o vs t)) named
+    call-enters fs xs f o vs s t is spent small ∙ ap (λ o. back_in (with_locals xs) s.locals (enter (deep_calls fs) o vs t)) named
 
 -- from the start of a call, calls may go as deep as the fuel or deeper
 pub deep-function : (fs : List Func) (f : Func) (args : List ℕ) (s : State) → s.fuel ≤ 2 ^ 32 → run_function (deep_calls fs) f args s ≡ run_function (function_of fs s.fuel) f args s

@@ -1,7 +1,7 @@
 -- How a run as it is kept leads to what the language says.
 use Rattle.std.specs.Prelude.{◌≡◌, ℕ, ◌+◌, ◌%◌, ◌^◌, Bool, ◌&&◌, nat_le, ◌==◌, length, List, Option, Some, None, Result, Ok, Err, ⊤}
 use Rattle.br_bytes.specs.declared.run.Choice.{Choice}
-use Rattle.br_bytes.specs.Layout.{stack_base, ram_end}
+use Rattle.br_words.specs.Layout.{stack_base, stack_end}
 use Rattle.br_bytes.specs.Buffers.{without_range}
 use Rattle.br_base.specs.declared.failure.OrMemory.{OrMemory}
 use Rattle.br_base.specs.declared.failure.OrMemory.TheVariants.{Memory, Fault}
@@ -54,4 +54,4 @@ Enters (Err Memory) r n body run = ⊤
 
 -- a choice that can be taken for a buffer of n bytes where its addresses are free
 abbrev pub can_stand : ℕ → Choice → Bool
-can_stand n c = (c.addr % 4 == 0) && (length c.bytes == n) && nat_le stack_base c.addr && nat_le (c.addr + n) ram_end
+can_stand n c = (c.addr % 4 == 0) && (length c.bytes == n) && nat_le stack_base c.addr && nat_le (c.addr + n) stack_end

@@ -1,5 +1,5 @@
 -- The word that an expression stands for, where it stands for one.
-use Rattle.std.specs.Prelude.{ℕ, List, [], ◌∷◌, Option, Some, None, if◌then◌else◌}
+use Rattle.std.specs.Prelude.{ℕ, List, [], ◌∷◌, Option, Some, None, ◌==◌, if◌then◌else◌}
 use Rattle.std.specs.Str.{bytes_eq}
 use Rattle.std.specs.Option.{option_and_then}
 use Rattle.br_words.specs.Words.{value_of_op}
@@ -34,6 +34,11 @@ both f None b = None
 both f (Some a) None = None
 both f (Some a) (Some b) = Some (f a b)
 
+-- the first of two where a word is not 0, else the second; with no word there is nselected
+abbrev pub selected : Option ℕ → Option ℕ → Option ℕ → Option ℕ
+selected None a b = None
+selected (Some v) a b = if v == 0 then b else a
+
 -- an expression, given what its parts stand for
 abbrev pub value_step : Locals → Memory → Expr-F (Option ℕ) → Option ℕ
 value_step locals m (Expr-F.Literal n) = Some n
@@ -41,6 +46,7 @@ value_step locals m (Expr-F.Var x) = locals x
 value_step locals m (Expr-F.Load size a) = option_and_then (λ a. get_number m a (size_of size)) a
 value_step locals m (Expr-F.Table size bytes i) = option_and_then (λ i. table_number bytes i (size_of size)) i
 value_step locals m (Expr-F.Op op a b) = both (value_of_op op) a b
+value_step locals m (Expr-F.Ite test a b) = selected test a b
 
 -- the word that an expression stands for, or None where it is undefined
 abbrev pub value : Locals → Memory → Expr → Option ℕ

@@ -4,8 +4,8 @@ ghost use Rattle.std.specs.Prelude.{◌≡◌, List};
 ghost use Rattle.br_syntax.specs.declared.program.Cmd.TheVariants.{While};
 ghost use Rattle.std.specs.Option.{option_copied};
 ghost use Rattle.br_syntax.specs.Functions.{function_named};
-ghost use Rattle.br_source_meaning.specs.Values.{values};
-ghost use Rattle.br_source_meaning.specs.Runs.{with_defined, with_fuel, with_buffer, back_in, run, run_all};
+ghost use Rattle.br_source_meaning.specs.Values.{with_local, values};
+ghost use Rattle.br_source_meaning.specs.Runs.{with_defined, with_fuel, with_buffer, with_locals, back_in, run, run_all};
 ghost use Rattle.br_source_meaning.specs.Calls.{run_function};
 ghost use Rattle.br_source_meaning.specs.Running.{state_of, deep_calls, Leads, LeadsBack};
 
@@ -101,7 +101,7 @@ impl<'a> Running<'a> {
         n: u32,
         body: &'a [Cmd],
     ) -> Result<(), OrMemory<Stop>>
-        ensures { Leads result self.new (with_buffer x.now n (run_all (deep_calls funcs.now) body.now) (state_of self.old)) }
+        ensures { Leads result self.new (with_buffer (with_local x.now) n (run_all (deep_calls funcs.now) body.now) (state_of self.old)) }
     {
         let a = self.take_buffer(x, n)?;
         self.commands(alloc, funcs, room, body)?;
@@ -141,7 +141,7 @@ impl<'a> Running<'a> {
     ) -> Result<(), OrMemory<Stop>>
         ensures { Leads result self.new (
             with_defined (values (state_of self.old).locals self.old.memory args.now) (state_of self.old) (λ vs.
-            with_fuel (state_of self.old) (λ t. back_in results.now (state_of self.old).locals (deep_calls funcs.now callee.now vs t)))) }
+            with_fuel (state_of self.old) (λ t. back_in (with_locals results.now) (state_of self.old).locals (deep_calls funcs.now callee.now vs t)))) }
     {
         let words = self.words(alloc, args)?;
         self.spend()?;

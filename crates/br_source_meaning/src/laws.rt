@@ -12,7 +12,7 @@ ghost use Rattle.br_syntax.specs.Functions.{function_named};
 ghost use Rattle.br_source_meaning.specs.Values.{Name, value};
 ghost use Rattle.br_source_meaning.specs.Runs.{State, Callee, Goes, with_defined, choose, with_fuel, then_do, run, run_all};
 ghost use Rattle.br_source_meaning.specs.Calls.{enter, function_of, call};
-ghost use Rattle.br_source_meaning.specs.Left.{BeginsWith, CanLeave, last, OnlyTakes, OutcomeStays, with_more, IsSameWithMore, IsSameCallWithMore};
+ghost use Rattle.br_bytes.specs.Left.{BeginsWith, CanLeave, last, OnlyTakes, OutcomeStays, with_more, IsSameWithMore, IsSameCallWithMore};
 
 /// A run keeps the events before it, takes answers and choices from the front, and gains no fuel.
 pub fn runs_only_take()

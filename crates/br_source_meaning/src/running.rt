@@ -3,7 +3,7 @@
 ghost use Rattle.std.specs.Prelude.{◌≡◌, ℕ, ◌+◌, ◌^◌, ◌<◌, ◌≤◌, List, IfOk};
 ghost use Rattle.br_words.specs.Size.{size_of};
 ghost use Rattle.br_bytes.specs.Memory.{put_number};
-ghost use Rattle.br_source_meaning.specs.Values.{value, values};
+ghost use Rattle.br_source_meaning.specs.Values.{with_local, value, values};
 ghost use Rattle.br_source_meaning.specs.Runs.{State, Run, Goes, with_defined, with_fuel, with_buffer, set_to, read_device, write_device, interact};
 ghost use Rattle.br_source_meaning.specs.Calls.{words_of};
 ghost use Rattle.br_source_meaning.specs.Running.{state_of, Leads, Enters, IsDefined, can_stand};
@@ -13,7 +13,7 @@ use crate::variables::Variables;
 use br_base::{Name, OrMemory};
 use br_bytes::{ByteMap, Choice, Event};
 use br_syntax::Expr;
-use br_words::{Size, device_word};
+use br_words::{STACK_BASE, STACK_END, Size, device_word};
 use sqlite_items::Items;
 use std::alloc::Global;
 
@@ -102,7 +102,7 @@ impl<'a> Running<'a> {
 
     // Reads a device word into a variable.
     fn read(&mut self, x: &'a Name, a: u32) -> Result<(), OrMemory<Stop>>
-        ensures { Leads result self.new (read_device x.now a (state_of self.old)) }
+        ensures { Leads result self.new (read_device (with_local x.now) a (state_of self.old)) }
     {
         if !device_word(a) {
             return Err(OrMemory::Fault(Stop::Undefined));
@@ -151,7 +151,7 @@ impl<'a> Running<'a> {
     // Takes the next choice for a buffer of n bytes: it is in memory then, and its address in the
     // variable.
     pub(crate) fn take_buffer(&mut self, x: &'a Name, n: u32) -> Result<u32, OrMemory<Stop>>
-        ensures enters { (body : State → Run) → Enters result self.new n body (with_buffer x.now n body (state_of self.old)) }
+        ensures enters { (body : State → Run) → Enters result self.new n body (with_buffer (with_local x.now) n body (state_of self.old)) }
         ensures within { IfOk result (λ a. a + n ≤ 2 ^ 32) }
     {
         let Some((c, rest)) = self.choices.split_first() else {
@@ -185,11 +185,10 @@ impl<'a> Running<'a> {
     }
 }
 
-// Whether a choice is of n bytes that lie in the stack region (0x80200000 up to 0x80300000) at a
-// multiple of 4.
+// Whether a choice is of n bytes that lie in the stack region at a multiple of 4.
 fn can_stand(c: &Choice, n: u32) -> bool
     ensures { result ≡ can_stand n c.now }
 {
     let end = c.addr as u64 + n as u64;
-    c.addr % 4 == 0 && c.bytes.len() == n as usize && 0x80200000 <= c.addr && end <= 0x80300000
+    c.addr % 4 == 0 && c.bytes.len() == n as usize && STACK_BASE <= c.addr && end <= STACK_END as u64
 }

@@ -34,6 +34,13 @@ pub(crate) fn value(variables: &Variables, memory: &ByteMap, e: &Expr) -> Option
             let b = value(variables, memory, b.get())?;
             Some(op(*o, a, b))
         }
+        Expr::Ite(test, a, b) => {
+            if value(variables, memory, test.get())? == 0 {
+                value(variables, memory, b.get())
+            } else {
+                value(variables, memory, a.get())
+            }
+        }
     }
 }
 

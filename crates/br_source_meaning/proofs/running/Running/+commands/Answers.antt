@@ -36,7 +36,7 @@ call-returns-in_default t c =
     let none : function_named c.args.funcs.now c.args.callee.now ≡ None = grind (arith, common_steps) in
     call-enters c.args.funcs.now c.args.results.now c.args.callee.now (values (state_of c.args.self.now).locals c.args.self.now.memory c.args.args.now) c.in_ok-words.words (state_of c.args.self.now) (state_of c.spend.new.self)
     c.in_ok-words.ensures c.in_ok-spend.ensures.leads c.spend.ensures.fits
-    ∙ ap (λ o. back_in c.args.results.now (state_of c.args.self.now).locals (enter (deep_calls c.args.funcs.now) o c.in_ok-words.words (state_of c.spend.new.self))) none
+    ∙ ap (λ o. back_in (with_locals c.args.results.now) (state_of c.args.self.now).locals (enter (deep_calls c.args.funcs.now) o c.in_ok-words.words (state_of c.spend.new.self))) none
 
 pub call-returns-in_err-words-2 : goal.call-returns-in_err-words-2
 call-returns-in_err-words-2 t c =
@@ -54,5 +54,5 @@ call-returns t c =
     let set : locals_of c.set_all.new.self.words ≡ with_locals c.args.results.now c.in_ok-words-2.words (state_of c.args.self.now).locals = grind (arith, common_steps) in
     call-runs c.args.funcs.now c.args.results.now c.args.callee.now (values (state_of c.args.self.now).locals c.args.self.now.memory c.args.args.now) c.in_ok-words.words (state_of c.args.self.now) (state_of c.spend.new.self) c.in-Some.f.now
     c.in_ok-words.ensures c.in_ok-spend.ensures.leads c.spend.ensures.fits named
-    ∙ ap (back_in c.args.results.now (state_of c.args.self.now).locals) ran
+    ∙ ap (back_in (with_locals c.args.results.now) (state_of c.args.self.now).locals) ran
     ∙ ap (λ l. Goes (record (state_of c.function.new.self) { locals = l })) (sym set)
