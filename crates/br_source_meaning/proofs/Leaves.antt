@@ -76,7 +76,7 @@ leaves-run_all call h (c ∷ cs) s = leaves-then_do s (run call c s) (run_all ca
 pub leaves-run_function : (call : Callee) → OnlyTakes call → (f : Func) (args : List ℕ) (s : State) → CanLeave s (last_of_call (run_function call f args s))
 leaves-run_function call h f args s =
     let inside : State = record s { locals = with_locals f.args args no_locals } in
-    leaves-returned s f.results (run_all call f.body inside) (leaves-run_all call h f.body inside)
+    leaves-returned s (words_of f.results) (run_all call f.body inside) (leaves-run_all call h f.body inside)
 
 leaves-enter : (call : Callee) → OnlyTakes call → (o : Option Func) (args : List ℕ) (s : State) → CanLeave s (last_of_call (enter call o args s))
 leaves-enter call h None args s = leave_refl s

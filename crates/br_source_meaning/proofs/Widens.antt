@@ -31,9 +31,7 @@ alike-read_by m (x ∷ y ∷ xs) vs s = inl refl
 alike-write_by : (m : More) (xs : List Name) (vs : List ℕ) (s : State) → Alike m (write_by xs vs s) (write_by xs vs (widen m s))
 alike-write_by m [] [] s = inl refl
 alike-write_by m [] (a ∷ []) s = inl refl
-alike-write_by m [] (a ∷ v ∷ []) s =
-    let after : State = record s { trace = s.trace ++ Write a v ∷ [] } in
-    alike-choose m (is_device_word a) (Goes after) (Ends Undefined s) (Goes (widen m after)) (Ends Undefined (widen m s)) refl (inl refl)
+alike-write_by m [] (a ∷ v ∷ []) s = alike-write_device m a v s
 alike-write_by m [] (a ∷ v ∷ w ∷ vs) s = inl refl
 alike-write_by m (x ∷ xs) vs s = inl refl
 
