@@ -11,7 +11,7 @@ use Rattle.br_syntax.specs.declared.program.Cmd.TheFolds.{map-Cmd, fold-Cmd, fol
 use Rattle.br_syntax.specs.declared.program.Func.{Func}
 use Rattle.br_syntax.specs.Functions.{function_named, number_named}
 use Rattle.br_syntax.specs.Shape.{IsShaped, is_shaped_function, is_shaped_command, is_buffer_size, command_step as shape_step, are_names}
-use Rattle.br_measure.specs.Bulk.{bulk, function_bulk, command_bulk, command_step}
+use Rattle.br_measure.specs.Bulk.{bulk, largest_bulk, function_bulk, command_bulk, command_step}
 use Rattle.br_measure.specs.Measure.{nested_step, nested_buffers, measure, measure_within, largest}
 use Rattle.br_measure.specs.Paths.{callees, HasNoRecursion}
 use Rattle.br_measure.proofs.Positions.{find_at_position, find_no_position}
@@ -140,7 +140,7 @@ module _ (fs : List Func) where
   covered zero f = ([], tt, omega arith)
   covered (suc depth) f = covers_at depth f (slice_get fs f) refl (λ g. covered depth g)
 
-  pub measure_fits : HasNoRecursion fs → IsShaped fs → bulk fs ≤ 8192 → (f : ℕ) (caller : Func) → slice_get fs f ≡ Some caller → measure fs caller ≤ 537165824
+  pub measure_fits : HasNoRecursion fs → IsShaped fs → bulk fs ≤ largest_bulk → (f : ℕ) (caller : Func) → slice_get fs f ≡ Some caller → measure fs caller ≤ 2148663296
   measure_fits none shaped small f caller at =
       let path = covered (length fs) f in
       let within = weights_apart (f ∷ path.0) (map own fs) (chain_apart fs none f path.0 path.1) in

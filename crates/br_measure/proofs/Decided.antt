@@ -8,7 +8,7 @@ use Rattle.br_syntax.specs.declared.program.Func.{Func}
 use Rattle.br_syntax.specs.NameFaults as names_are
 use Rattle.br_measure.specs.declared.fault.NameFault.{NameFault}
 use Rattle.br_measure.specs.declared.fault.NameFault.TheVariants.{TooLarge, Recursion, StackTooDeep}
-use Rattle.br_measure.specs.Bulk.{bulk}
+use Rattle.br_measure.specs.Bulk.{bulk, largest_bulk}
 use Rattle.br_measure.specs.Measure.{measure, measure_within}
 use Rattle.br_measure.specs.Names.{name_faults}
 use Rattle.br_measure.specs.Lowest.{lowest}
@@ -119,7 +119,7 @@ module _ (fs : List Func) where
       let same : needs_at (length fs) fs f ≡ measure fs g = ap (measure_within (length fs) fs) at in
       lt-ltb 1048576 (needs_at (length fs) fs f) (omega arith)
 
-  by_stack : names_are.HasNoNameFault fs → bulk fs ≤ 8192 → HasNoRecursion fs → Search test_deep (length fs) → Outcome
+  by_stack : names_are.HasNoNameFault fs → bulk fs ≤ largest_bulk → HasNoRecursion fs → Search test_deep (length fs) → Outcome
   by_stack names small none found =
       ⊎_elim
       (λ shallow. inl (record {
@@ -149,7 +149,7 @@ module _ (fs : List Func) where
       ))
       found
 
-  by_calls : names_are.HasNoNameFault fs → bulk fs ≤ 8192 → (o : Option ℕ) → IsFirstLoop (call_table fs) o → Outcome
+  by_calls : names_are.HasNoNameFault fs → bulk fs ≤ largest_bulk → (o : Option ℕ) → IsFirstLoop (call_table fs) o → Outcome
   by_calls names small None loop = by_stack names small (none_in_table fs loop) (search_first test_deep (length fs))
   by_calls names small (Some f) loop =
       let first = recursive_in_table fs f loop in
@@ -160,7 +160,7 @@ module _ (fs : List Func) where
       ⊎_elim
       (λ large. inr (TooLarge (min (bulk fs) 4294967295), inr (names, (large, refl))))
       (λ small. let loop = first_loop (call_table fs) (table_is fs) in by_calls names small loop.0 loop.1)
-      (cases_lt 8192 (bulk fs))
+      (cases_lt largest_bulk (bulk fs))
 
   by_names : (o : Option NameFault) → lowest (name_faults fs) ≡ o → Outcome
   by_names None is = by_bulk (no_name_fault fs (none_lowest (name_faults fs) is))

@@ -11,7 +11,7 @@ use Rattle.br_measure.specs.declared.fault.NameFault.{NameFault}
 use Rattle.br_measure.specs.declared.fault.NameFault.TheVariants.{DuplicateFunction, UnknownFunction, WrongArguments, WrongResults, UnknownAction, TooLarge, Recursion, StackTooDeep}
 use Rattle.br_syntax.specs.NameFaults.{HasNoNameFault}
 use Rattle.br_syntax.specs.Shape.{IsShaped}
-use Rattle.br_measure.specs.Bulk.{bulk}
+use Rattle.br_measure.specs.Bulk.{bulk, largest_bulk}
 use Rattle.br_measure.specs.Measure.{measure}
 use Rattle.br_measure.specs.Names.{place, name_faults, IsLowest}
 use Rattle.br_measure.specs.Paths.{HasNoRecursion}
@@ -135,7 +135,7 @@ function_at (f ∷ fs) zero inside = (f, refl)
 function_at (f ∷ fs) (suc k) inside = function_at fs k (omega arith)
 
 -- the first function above the limit
-pub deep_at : (fs : List Func) (ms : List ℕ) → HasNoRecursion fs → IsShaped fs → bulk fs ≤ 8192 → ms ≡ map (λ f. min (measure fs f) 4294967295) fs → (k : ℕ) → position (λ m. ltb 1048576 m) ms ≡ Some k
+pub deep_at : (fs : List Func) (ms : List ℕ) → HasNoRecursion fs → IsShaped fs → bulk fs ≤ largest_bulk → ms ≡ map (λ f. min (measure fs f) 4294967295) fs → (k : ℕ) → position (λ m. ltb 1048576 m) ms ≡ Some k
     → IsTooDeep fs k (get_or ms k 0) × ((g t : ℕ) → g < k → IsTooDeep fs g t → ⊥)
 deep_at fs ms none shaped small are k found =
     let limits : 1048576 < 4294967295 = omega arith in

@@ -19,6 +19,7 @@ expression_step (Expr-F.Var x) = 1
 expression_step (Expr-F.Load size a) = 1 + a
 expression_step (Expr-F.Table size bytes i) = 1 + words_for (length bytes) + i
 expression_step (Expr-F.Op op a b) = 1 + a + b
+expression_step (Expr-F.Ite test a b) = 1 + test + a + b
 
 abbrev pub expression_bulk : Expr → ℕ
 expression_bulk = fold-Expr ℕ expression_step
@@ -50,3 +51,7 @@ function_bulk f = 8 + length f.args + length f.results + commands_bulk f.body
 
 abbrev pub bulk : List Func → ℕ
 bulk fs = sum (map function_bulk fs)
+
+-- the largest bulk of a program
+abbrev pub largest_bulk : ℕ
+largest_bulk = 32768

@@ -5,7 +5,7 @@ use Rattle.br_syntax.specs.declared.program.Func.{Func}
 use Rattle.br_syntax.specs.NameFaults.{HasNoNameFault}
 use Rattle.br_measure.specs.declared.fault.NameFault.{NameFault}
 use Rattle.br_measure.specs.declared.fault.NameFault.TheVariants.{DuplicateFunction, UnknownFunction, WrongArguments, WrongResults, UnknownAction, TooLarge, Recursion, StackTooDeep}
-use Rattle.br_measure.specs.Bulk.{bulk}
+use Rattle.br_measure.specs.Bulk.{bulk, largest_bulk}
 use Rattle.br_measure.specs.Names.{name_faults, IsLowest}
 use Rattle.br_measure.specs.Paths.{CallPath, HasNoRecursion}
 use Rattle.br_measure.specs.Measure.{measure}
@@ -25,11 +25,11 @@ pub record IsTooDeep (fs : List Func) (f s : ℕ) : Type 0 where
 -- is too large, else a function is recursive, else a function may need too much stack. The first
 -- such function is named.
 abbrev pub IsLaterFault : List Func → NameFault → Type 0
-IsLaterFault fs (TooLarge b) = (8192 < bulk fs) × (b ≡ min (bulk fs) 4294967295)
+IsLaterFault fs (TooLarge b) = (largest_bulk < bulk fs) × (b ≡ min (bulk fs) 4294967295)
 IsLaterFault fs (Recursion f) =
-    (bulk fs ≤ 8192) × IsRecursive fs f × ((g : ℕ) → g < f → IsRecursive fs g → ⊥)
+    (bulk fs ≤ largest_bulk) × IsRecursive fs f × ((g : ℕ) → g < f → IsRecursive fs g → ⊥)
 IsLaterFault fs (StackTooDeep f s) =
-    (bulk fs ≤ 8192) × HasNoRecursion fs × IsTooDeep fs f s × ((g t : ℕ) → g < f → IsTooDeep fs g t → ⊥)
+    (bulk fs ≤ largest_bulk) × HasNoRecursion fs × IsTooDeep fs f s × ((g t : ℕ) → g < f → IsTooDeep fs g t → ⊥)
 IsLaterFault fs (DuplicateFunction at) = ⊥
 IsLaterFault fs (UnknownFunction at) = ⊥
 IsLaterFault fs (WrongArguments at) = ⊥
@@ -43,6 +43,6 @@ IsFault fs fault = IsLowest (name_faults fs) fault ⊎ (HasNoNameFault fs × IsL
 -- a program that has no fault
 pub record IsSound (fs : List Func) : Type 0 where
   pub names : HasNoNameFault fs
-  pub small : bulk fs ≤ 8192
+  pub small : bulk fs ≤ largest_bulk
   pub no_recursion : HasNoRecursion fs
   pub shallow : All (λ f. measure fs f ≤ 1048576) fs

@@ -86,6 +86,9 @@ fn expression(e: &Expr) -> u32
             i.get(),
         )),
         Expr::Op(_, a, b) => expression(a.get()).saturating_add(expression(b.get())),
+        Expr::Ite(test, a, b) => expression(test.get())
+            .saturating_add(expression(a.get()))
+            .saturating_add(expression(b.get())),
     };
     parts.saturating_add(1)
 }

@@ -43,7 +43,7 @@ impl Model for Checked {
 }
 
 /// Keeps a program in which no rule is broken. Otherwise the answer is the fault of the program:
-/// the lowest fault of a name, else the bulk where it is above 8,192, else the first function that
+/// the lowest fault of a name, else the bulk where it is above 32,768, else the first function that
 /// has a path of calls to itself, else the first function that may need more than 1,048,576 bytes
 /// of stack. Answers want of memory too.
 pub fn check(alloc: Global, p: Program) -> Result<Checked, OrMemory<NameFault>>

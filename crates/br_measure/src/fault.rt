@@ -25,7 +25,7 @@ pub enum NameFault {
     /// An action that is neither `MMIOREAD` nor `MMIOWRITE`.
     #[error("no action of this name, at offset {0}")]
     UnknownAction(u32),
-    /// A program of this bulk, which is above 8,192. A bulk past 4,294,967,295 is given as that.
+    /// A program of this bulk, which is above 32,768. A bulk past 4,294,967,295 is given as that.
     #[error("a program of bulk {0}")]
     TooLarge(u32),
     /// The first function that has a path of calls to itself.

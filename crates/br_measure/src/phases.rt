@@ -4,7 +4,7 @@ ghost use Rattle.std.specs.Prelude.{◌≡◌, ℕ, ◌<◌, ◌≤◌, List, So
 ghost use Rattle.std.specs.List.{position};
 ghost use Rattle.br_syntax.specs.declared.program.Func.{Func};
 ghost use Rattle.br_syntax.specs.Shape.{IsShaped};
-ghost use Rattle.br_measure.specs.Bulk.{bulk};
+ghost use Rattle.br_measure.specs.Bulk.{bulk, largest_bulk};
 ghost use Rattle.br_measure.specs.Measure.{measure};
 ghost use Rattle.br_syntax.specs.NameFaults.{HasNoNameFault};
 ghost use Rattle.br_measure.specs.Paths.{HasNoRecursion};
@@ -24,7 +24,7 @@ use sqlite_items::Items;
 use std::alloc::Global;
 
 /// The largest bulk of a program.
-const LARGEST_BULK: u32 = 8192;
+const LARGEST_BULK: u32 = 32768;
 
 /// The most bytes of stack that a function may need.
 const LARGEST_MEASURE: u32 = 1048576;
@@ -59,7 +59,7 @@ pub fn examine(alloc: Global, funcs: &[Func], total: u32) -> Result<Examined, No
 fn examine_calls(alloc: Global, index: &Index) -> Result<Examined, NoMemory>
     requires shaped { IsShaped index.now.funcs.now }
     requires names { HasNoNameFault index.now.funcs.now }
-    requires small { bulk index.now.funcs.now ≤ 8192 }
+    requires small { bulk index.now.funcs.now ≤ largest_bulk }
     ensures { IfOk result (λ found. IsExamined index.now.funcs.now found) }
 {
     let table = call_table(alloc, index)?;
@@ -77,7 +77,7 @@ fn examine_stack(
 ) -> Result<Examined, NoMemory>
     requires shaped { IsShaped funcs.now }
     requires names { HasNoNameFault funcs.now }
-    requires small { bulk funcs.now ≤ 8192 }
+    requires small { bulk funcs.now ≤ largest_bulk }
     requires no_recursion { HasNoRecursion funcs.now }
     requires table { table.now ≡ call_table funcs.now }
     ensures { IfOk result (λ found. IsExamined funcs.now found) }

@@ -143,10 +143,21 @@ fn nested(alloc: Global, outer: &[u8]) -> Result<Vec<u8>, AllocError> {
 #[test]
 fn sizes_have_limits(rt: HostRuntime) -> Result<(), Fail> {
     let alloc = rt.alloc();
-    let skips = repeated(alloc, b"(fn f () () ", b"(skip)", 8184, b")")?;
+    for (text, bulk) in [
+        (b"(fn f () ())".as_slice(), 8),
+        (b"(fn f (a) (r) (set r (ite a (add a 2) 7)))".as_slice(), 17),
+        (
+            b"(fn f () (r) (set r (ite (ite 1 2 3) (table1 (1 2 3 4 5) 0) 0)))".as_slice(),
+            20,
+        ),
+    ] {
+        let kept = checked(&rt, alloc, text)?.expect(&rt, "a small program");
+        assert_eq!(rt; kept.bulk(), bulk);
+    }
+    let skips = repeated(alloc, b"(fn f () () ", b"(skip)", 32760, b")")?;
     assert_eq!(rt; fault(&rt, alloc, &skips)?, None);
-    let more = repeated(alloc, b"(fn f () () ", b"(skip)", 8185, b")")?;
-    assert_eq!(rt; fault(&rt, alloc, &more)?, Some(NameFault::TooLarge(8193)));
+    let more = repeated(alloc, b"(fn f () () ", b"(skip)", 32761, b")")?;
+    assert_eq!(rt; fault(&rt, alloc, &more)?, Some(NameFault::TooLarge(32769)));
     let sixteen = nested(alloc, b"(fn f () () (stackalloc p 65536 ")?;
     assert_eq!(rt;
         fault(&rt, alloc, &sixteen)?,
@@ -183,19 +194,22 @@ fn callers(alloc: Global, count: usize, all: bool) -> Result<String, AllocError>
 #[test]
 fn many_functions_call_later_ones(rt: HostRuntime) -> Result<(), Fail> {
     let alloc = rt.alloc();
-    let chain = callers(alloc, 910, false)?;
-    let kept = checked(&rt, alloc, chain.as_bytes())?.expect(&rt, "a chain of 910 functions");
-    assert_eq!(rt; kept.bulk(), 8189);
-    assert_eq!(rt; kept.find(b"f909"), Some(909));
+    let chain = callers(alloc, 3591, false)?;
+    let kept = checked(&rt, alloc, chain.as_bytes())?.expect(&rt, "a chain of 3,591 functions");
+    assert_eq!(rt; kept.bulk(), 32318);
+    assert_eq!(rt; kept.find(b"f3590"), Some(3590));
     assert_eq!(rt; kept.find(b"g"), None);
-    assert_eq!(rt; kept.program().funcs.len(), 910);
-    assert_eq!(rt; kept.measure(0), 265716);
-    let longer = callers(alloc, 1000, false)?;
-    assert_eq!(rt;
-        fault(&rt, alloc, longer.as_bytes())?,
-        Some(NameFault::TooLarge(8999))
-    );
-    let dense = callers(alloc, 120, true)?;
+    assert_eq!(rt; kept.program().funcs.len(), 3591);
+    assert_eq!(rt; kept.measure(0), 1048568);
+    for (count, wanted) in [
+        (3592, NameFault::StackTooDeep(0, 1048860)),
+        (3641, NameFault::StackTooDeep(0, 1063168)),
+        (3642, NameFault::TooLarge(32777)),
+    ] {
+        let longer = callers(alloc, count, false)?;
+        assert_eq!(rt; fault(&rt, alloc, longer.as_bytes())?, Some(wanted));
+    }
+    let dense = callers(alloc, 248, true)?;
     assert_eq!(rt; fault(&rt, alloc, dense.as_bytes())?, None);
     Ok(())
 }
