@@ -4,3 +4,5 @@ pub mod Live
 pub mod Covers
 pub mod Renamed
 pub mod Programs
+pub mod Uniform
+pub mod Forgetting

@@ -6,7 +6,7 @@ use Rattle.br_flatimp.specs.declared.program.Stmt.TheOpen.{Stmt-F}
 use Rattle.br_flatimp.specs.declared.program.Stmt.TheFolds.{fold-roll-Stmt, ind-Stmt}
 use Rattle.br_flatimp.specs.Parts.{test_names, operand_names}
 use Rattle.br_flatimp.specs.Values.{Names}
-use Rattle.br_flatimp.specs.Liveness.{nothing, is_in, union, without, Within, Live, entry, at_test, before_step, live_step, live}
+use Rattle.br_flatimp.specs.Liveness.{nothing, is_in, union, without, Within, Live, entry, at_test, before_step, live_step, live, before}
 
 pub or_left : (a b : Bool) → IsTrue a → IsTrue (a || b)
 or_left true b h = refl
@@ -139,3 +139,7 @@ test-least first test last after set closed x h =
     let point : IsPointwise f = pointwise-after (entry (map live last)) (entry (map live first)) (pointwise-entry last) (pointwise-entry first) in
     closed x (or_or (is_in (test_names test) x) (after x || f nothing x) (is_in (test_names test) x) (after x || f set x) (λ e. e)
     (or_or (after x) (f nothing x) (after x) (f set x) (λ e. e) (point nothing set x (λ e. absurd (cc e)))) h)
+
+-- more that is live after a statement is no less that is live before it
+pub grows-before : (c : Stmt) (small large : Names) → Within small large → Within (before c small) (before c large)
+grows-before c small large h x e = pointwise-before c small large x (h x) e

@@ -13,15 +13,11 @@ use Rattle.br_flatimp.specs.Parts.{written, read, parts, own_callees, operand_na
 use Rattle.br_flatimp.specs.Values.{Locals, Names, with_local, with_locals, without_names, words_of, operand_word, moved, test_word}
 use Rattle.br_flatimp.specs.Runs.{State, Run, Callee, Forgets, set_to, statement_step}
 use Rattle.br_flatimp.specs.Liveness.{is_in, union, without, Within}
-use Rattle.br_flatimp.specs.Matches.{SameOutside, Beside, Matches, CalleesMatch, IsSameDefined}
-use Rattle.br_flatimp.specs.Renaming.{renamed_operand, renamed_test, renamed_step, Covers, IsApart}
+use Rattle.br_flatimp.specs.Matches.{SameOutside, Matches, CalleesMatch, IsSameDefined}
+use Rattle.br_flatimp.specs.Renaming.{renamed_operand, renamed_test, renamed_step, IsApart, At}
 use Rattle.br_flatimp.proofs.Live.{or_left, or_right, and_both, both_and}
 use Rattle.br_flatimp.proofs.Matches.{matches-then_do, matches-weaker, matches-with_defined, matches-choose, matches-with_fuel, AtTest, matches-loop, given, matches-with_buffer, matches-read_device, matches-write_device, matches-back_in}
 use Rattle.br_flatimp.proofs.Covers.{is_in-head, is_in-tail, covers-within, covers-words, covers-operand, covers-test, covers-write, covers-write_all, covers-without}
-
--- two states that differ in variables alone, where those of the first cover the live ones of the second
-abbrev pub At : (ℕ → ℕ) → Names → State → State → Type 0
-At to live = Beside (Covers to live)
 
 abbrev pub Outside : State → State → Type 0
 Outside = SameOutside

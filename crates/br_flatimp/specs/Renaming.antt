@@ -1,5 +1,6 @@
 -- Functions with other names, and what a renaming has to keep apart.
-use Rattle.std.specs.Prelude.{◌≡◌, ℕ, false, map, IsTrue}
+use Rattle.std.specs.Prelude.{◌≡◌, ℕ, false, List, [], ◌∷◌, map, IsTrue}
+use Rattle.std.specs.List.{AllByRecursion}
 use Rattle.br_flatimp.specs.declared.program.Operand.{Operand}
 use Rattle.br_flatimp.specs.declared.program.Operand.TheVariants as operand
 use Rattle.br_flatimp.specs.declared.program.Cond.{Cond}
@@ -9,9 +10,10 @@ use Rattle.br_flatimp.specs.declared.program.Stmt.TheOpen.{Stmt-F}
 use Rattle.br_flatimp.specs.declared.program.Stmt.TheViews.{roll-Stmt}
 use Rattle.br_flatimp.specs.declared.program.Stmt.TheFolds.{fold-Stmt}
 use Rattle.br_flatimp.specs.Values.{Locals, Names}
-use Rattle.br_flatimp.specs.Liveness.{is_in, Moment}
-use Rattle.br_flatimp.specs.Matches.{IsSameDefined}
-use Rattle.br_flatimp.specs.Runs.{Forgets}
+use Rattle.br_flatimp.specs.declared.program.FlatFunc.{FlatFunc}
+use Rattle.br_flatimp.specs.Liveness.{is_in, Moment, function_moments}
+use Rattle.br_flatimp.specs.Matches.{Beside, IsSameDefined}
+use Rattle.br_flatimp.specs.Runs.{State, Forgets}
 
 abbrev pub renamed_operand : (ℕ → ℕ) → Operand → Operand
 renamed_operand to (operand.Name y) = operand.Name (to y)
@@ -53,3 +55,32 @@ IsApart to x live = (z : ℕ) → IsTrue (live z) → to z ≡ to x → z ≡ x
 pub record Allows (to : ℕ → ℕ) (forgets : Forgets) (m : Moment) : Type 0 where
   pub apart : (x : ℕ) → IsTrue (is_in m.written x) → IsApart to x m.after_write
   pub kept : (g x : ℕ) → IsTrue (is_in m.callees g) → IsTrue (m.after x) → is_in m.written x ≡ false → forgets g (to x) ≡ false
+
+-- A function and one with other names throughout. Its arguments get different names, and each statement may
+-- be renamed.
+pub record RenamedFunction (to : ℕ → ℕ) (forgets : Forgets) (f2 f : FlatFunc) : Type 0 where
+  pub name : f2.name ≡ f.name
+  pub args : f2.args ≡ map to f.args
+  pub results : f2.results ≡ map to f.results
+  pub body : f2.body ≡ map (renamed to) f.body
+  pub apart : (x : ℕ) → IsTrue (is_in f.args x) → IsApart to x (is_in f.args)
+  pub allowed : AllByRecursion (Allows to forgets) (function_moments f)
+
+-- functions, and those with other names, each by a renaming of its own
+abbrev pub RenamedFunctions : Forgets → List FlatFunc → List FlatFunc → Type 0
+RenamedFunctions forgets [] [] = Unit {0}
+RenamedFunctions forgets (f2 ∷ fs2) (f ∷ fs) = ((to : ℕ → ℕ) × RenamedFunction to forgets f2 f) × RenamedFunctions forgets fs2 fs
+RenamedFunctions forgets [] (f ∷ fs) = ⊥
+RenamedFunctions forgets (f2 ∷ fs2) [] = ⊥
+
+-- what is live after a call, and not its result, is not forgotten
+pub record ForgetsDead (forgets : Forgets) (m : Moment) : Type 0 where
+  pub kept : (g x : ℕ) → IsTrue (is_in m.callees g) → IsTrue (m.after x) → is_in m.written x ≡ false → forgets g x ≡ false
+
+-- no function reads a name that one of its calls forgot
+abbrev pub ReadsNoForgotten : Forgets → List FlatFunc → Type 0
+ReadsNoForgotten forgets = AllByRecursion (λ f. AllByRecursion (ForgetsDead forgets) (function_moments f))
+
+-- two states that differ in variables alone, where those of the first cover the live ones of the second
+abbrev pub At : (ℕ → ℕ) → Names → State → State → Type 0
+At to live = Beside (Covers to live)

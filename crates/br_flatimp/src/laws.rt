@@ -1,9 +1,54 @@
 // What holds of flat programs. These functions do nothing: each contract is a law of the definitions.
 
-ghost use Rattle.br_flatimp.specs.Refines.{Meaning, Refines};
+ghost use Rattle.std.specs.Prelude.{ℕ, List, map};
+ghost use Rattle.std.specs.List.{AllByRecursion};
+ghost use Rattle.br_flatimp.specs.declared.program.Cond.{Cond};
+ghost use Rattle.br_flatimp.specs.declared.program.FlatFunc.{FlatFunc};
+ghost use Rattle.br_flatimp.specs.declared.program.Stmt.{Stmt};
+ghost use Rattle.br_flatimp.specs.Liveness.{Within, at_test, before, before_all, entry, is_in, live, moments, union};
+ghost use Rattle.br_flatimp.specs.Matches.{CalleesMatch, Matches, SameOutside};
+ghost use Rattle.br_flatimp.specs.Parts.{test_names};
+ghost use Rattle.br_flatimp.specs.Refines.{Meaning, Refines, forgetting, meaning};
+ghost use Rattle.br_flatimp.specs.Renaming.{At, ForgetsDead, ReadsNoForgotten, RenamedFunctions};
+ghost use Rattle.br_flatimp.specs.Runs.{Callee, Forgets, State, forgets_none, run, run_all};
+ghost use Rattle.br_flatimp.specs.Values.{Names};
 
 /// A program refines itself, and where one refines a second and that a third, it refines the third.
 pub fn refines_composes()
     ensures itself { (p : Meaning) → Refines p p }
     ensures composes { (r q p : Meaning) → Refines r q → Refines q p → Refines r p }
+{}
+
+/// What is live at a loop's test keeps its rule, and is within every set that keeps it.
+pub fn liveness_is_least()
+    ensures keeps { (first : List Stmt) (test : Cond) (last : List Stmt) (after : Names) →
+        Within (union (is_in (test_names test)) (union after (before_all last (before_all first (at_test (map live first) test (map live last) after))))) (at_test (map live first) test (map live last) after) }
+    ensures least { (first : List Stmt) (test : Cond) (last : List Stmt) (after set : Names) →
+        Within (union (is_in (test_names test)) (union after (before_all last (before_all first set)))) set →
+        Within (at_test (map live first) test (map live last) after) set }
+    ensures grows { (s : Stmt) (small large : Names) → Within small large → Within (before s small) (before s large) }
+{}
+
+/// Two states that agree on what is live before a statement, or before statements in turn, are taken
+/// to states that agree on what is live after, with the same events and the same end, where calls do
+/// so: as far as the second run is defined. Calls in the first may forget what is not live.
+pub fn runs_agree_on_live_names()
+    ensures statement { (forgets others : Forgets) (q p : Callee) → CalleesMatch q p → (c : Stmt) (after : Names) (s t : State) →
+        AllByRecursion (ForgetsDead forgets) ((live c).moments after) → At (λ x. x) (before c after) s t →
+        Matches (At (λ x. x) after) SameOutside (run forgets q c s) (run others p c t) }
+    ensures statements { (forgets others : Forgets) (q p : Callee) → CalleesMatch q p → (body : List Stmt) (after : Names) (s t : State) →
+        AllByRecursion (ForgetsDead forgets) (moments (map live body) after) → At (λ x. x) (before_all body after) s t →
+        Matches (At (λ x. x) after) SameOutside (run_all forgets q body s) (run_all others p body t) }
+{}
+
+/// A program whose functions have other names refines the one that they came from, where what is
+/// written stays apart from what is live; and so where its calls forget what is not live.
+pub fn renamed_programs_refine()
+    ensures { (forgets others : Forgets) (qs ps : List FlatFunc) → RenamedFunctions forgets qs ps → Refines (forgetting forgets qs) (forgetting others ps) }
+{}
+
+/// A program that reads no name that a call forgot refines its usual meaning.
+pub fn forgetting_refines()
+    ensures usual { (forgets : Forgets) (fs : List FlatFunc) → ReadsNoForgotten forgets fs → Refines (forgetting forgets fs) (meaning fs) }
+    ensures less { (forgets others : Forgets) (fs : List FlatFunc) → ReadsNoForgotten forgets fs → Refines (forgetting forgets fs) (forgetting others fs) }
 {}

@@ -1,9 +1,18 @@
 //! Flat programs: functions whose names are numbers, and whose statements hold no expressions. Their
 //! meaning, what it means that one program refines another, which names are live where, and sizes.
+//!
+//! The laws of these definitions are contracts of functions that do nothing: where such a function is
+//! called, its contract is among the facts there. What a pass shows of its answer goes by pieces that
+//! each stand as a lemma: `proofs/Matches` for the forms of runs over any variables, `proofs/Renamed` for
+//! one statement, `proofs/Uniform` for functions, and `refines-from_entries` of `proofs/Programs`, which
+//! makes Refines of what holds of each function.
 #![tactic(auto)]
 
 mod laws;
 mod program;
 
-pub use laws::refines_composes;
+pub use laws::{
+    forgetting_refines, liveness_is_least, refines_composes, renamed_programs_refine,
+    runs_agree_on_live_names,
+};
 pub use program::{Cond, FlatFunc, FlatProgram, Operand, Proposal, Rel, Stmt};
