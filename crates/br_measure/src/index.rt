@@ -12,14 +12,14 @@ use crate::fault::NameFault;
 use crate::lowest::lower;
 use br_base::NoMemory;
 use br_syntax::Func;
+use indexmap::IndexMap;
 use std::alloc::Global;
-use std::collections::HashMap;
 
 /// The functions of a program, and the number of the first of each name.
 #[derive(Drop)]
 pub struct Index<'a> {
     pub funcs: &'a [Func],
-    numbers: HashMap<&'a [u8], usize>,
+    numbers: IndexMap<&'a [u8], usize>,
     ghost numbered: { (x : List ℕ) → get_by (λ k. bytes_eq x k.now) numbers ≡ number_named funcs.now x } by { Prim.hlevel props },
 }
 
@@ -29,7 +29,7 @@ impl<'a> Index<'a> {
         ensures functions { IfOk result (λ r. r.0.funcs.now ≡ funcs.now) }
         ensures fault { IfOk result (λ r. r.1 ≡ lowest (duplicates_after [] funcs.now)) }
     {
-        let mut numbers = HashMap::new(alloc);
+        let mut numbers = IndexMap::new(alloc);
         let mut fault = None;
         for (i, f) in funcs.iter().enumerate() {
             let name = f.name.bytes();

@@ -163,6 +163,11 @@ fn sizes_have_limits(rt: HostRuntime) -> Result<(), Fail> {
         fault(&rt, alloc, &sixteen)?,
         Some(NameFault::StackTooDeep(0, 1048928))
     );
+    let recursive = nested(alloc, b"(fn f () () (call () f) (stackalloc p 65536 ")?;
+    assert_eq!(rt;
+        fault(&rt, alloc, &recursive)?,
+        Some(NameFault::Recursion(0))
+    );
     let deepest = nested(alloc, b"(fn f () () (stackalloc p 65184 ")?;
     assert_eq!(rt; fault(&rt, alloc, &deepest)?, None);
     let deeper = nested(alloc, b"(fn f () () (stackalloc p 65188 ")?;
