@@ -1,0 +1,10 @@
+pub mod Sets
+pub mod Waits
+pub mod Exchanges
+pub mod Transfers
+pub mod Turns
+pub mod Words
+pub mod Frames
+pub mod Polls
+pub mod Boots
+pub mod Ahead

@@ -1,0 +1,12 @@
+//! The trace language of the firmware, and the judge that says where a trace departs from it.
+#![tactic(auto)]
+
+mod exchange;
+mod judge;
+mod place;
+mod word;
+
+pub use judge::Judge;
+
+#[cfg(test)]
+mod tests;
