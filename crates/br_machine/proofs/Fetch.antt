@@ -48,16 +48,20 @@ four_bytes ram q bs place =
     let third : slice_index ram (q + 1 + 1 + 1) ≡ slice_index bs 3 = ap (slice_index ram) (omega arith) ∙ place 3 (omega arith) in
     rw (zeroth, first, second, third) refl
 
+-- four bytes of the code are the number of its word
+pub word_at-code : (code ram : List ℕ) (from j w : ℕ) → ((i : ℕ) → i < 4 * length code → slice_index ram (from + i) ≡ slice_index (code_bytes code) i)
+    → slice_get code j ≡ Some w → w < 2 ^ 32 → number_of (bytes_from ram (from + 4 * j) 4) ≡ w
+word_at-code code ram from j w bytes at small =
+    let inside = within_code code j w at in
+    let place : (i : ℕ) → i < 4 → slice_index ram (from + 4 * j + i) ≡ slice_index (low_bytes 4 w) i =
+    λ i h. ap (slice_index ram) (let e : from + 4 * j + i ≡ from + (4 * j + i) = omega arith in e) ∙ bytes (4 * j + i) (omega arith) ∙ code_bytes-at code j w i at h in
+    ap number_of (four_bytes ram (from + 4 * j) (low_bytes 4 w) place) ∙ number_of-low_bytes_4 w small
+
 -- the word at pc is that of the code
 pub fetched-code : (code : List ℕ) (s : MachineState) (j w : ℕ) → HasCode code s → slice_get code j ≡ Some w → w < 2 ^ 32 → s.pc ≡ code_base s.layout + 4 * j → fetched s ≡ w
 fetched-code code s j w has at small pc =
-    let inside = within_code code j w at in
-    let q : ℕ = code_place s.layout + 4 * j in
-    let p : s.pc - ram_base s.layout ≡ q = omega (arith, (regions s.layout).code_in) in
-    let place : (i : ℕ) → i < 4 → slice_index s.ram (q + i) ≡ slice_index (low_bytes 4 w) i =
-    λ i h. ap (slice_index s.ram) (omega arith) ∙ has.bytes (4 * j + i) (omega arith) ∙ code_bytes-at code j w i at h in
-    let bytes = four_bytes s.ram q (low_bytes 4 w) place in
-    ap (λ q. number_of (bytes_from s.ram q 4)) p ∙ ap number_of bytes ∙ number_of-low_bytes_4 w small
+    let p : s.pc - ram_base s.layout ≡ code_place s.layout + 4 * j = omega (arith, (regions s.layout).code_in) in
+    ap (λ q. number_of (bytes_from s.ram q 4)) p ∙ word_at-code code s.ram (code_place s.layout) j w has.bytes at small
 
 is_in_code-at : (code : List ℕ) (s : MachineState) (j w : ℕ) → HasCode code s → slice_get code j ≡ Some w → s.pc ≡ code_base s.layout + 4 * j → is_in_code s ≡ true
 is_in_code-at code s j w has at pc =

@@ -6,4 +6,6 @@ pub mod Begins
 pub mod Steps
 pub mod Words
 pub mod Leftovers
+pub mod Kept
+pub mod Made
 pub mod Moments

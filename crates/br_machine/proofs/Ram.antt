@@ -68,6 +68,12 @@ pub length-low_bytes : (n v : ℕ) → length (low_bytes n v) ≡ n
 length-low_bytes zero v = refl
 length-low_bytes (suc n) v = ap suc (length-low_bytes n (v / 256))
 
+pub low_bytes_4-is : (v : ℕ) → v % 256 ∷ v / 256 % 256 ∷ v / 65536 % 256 ∷ v / 16777216 % 256 ∷ [] ≡ low_bytes 4 v
+low_bytes_4-is v =
+    let third : v / 65536 % 256 ≡ v / 256 / 256 % 256 = omega arith in
+    let fourth : v / 16777216 % 256 ≡ v / 256 / 256 / 256 % 256 = omega arith in
+    rw (third, fourth) refl
+
 -- a word is the number of its four bytes
 pub number_of-low_bytes_4 : (v : ℕ) → v < 2 ^ 32 → number_of (low_bytes 4 v) ≡ v
 number_of-low_bytes_4 v h = omega arith

@@ -178,13 +178,13 @@ step_loads_word code low m j w rd rs1 a imm has at small row pc is from to above
     step_computes code low m j w (Load Lw rd rs1 imm) rd (ram_word s a) has at small row pc fine does
     (subst (λ b. IsAbove low (b, 4)) (sym is) above)
 
-and_parts : (x y : Bool) → (x && y) ≡ true → (x ≡ true) × (y ≡ true)
+pub and_parts : (x y : Bool) → (x && y) ≡ true → (x ≡ true) × (y ≡ true)
 and_parts true true h = (refl, refl)
 and_parts true false h = (refl, h)
 and_parts false y h = (h, cc)
 
 -- the device windows are below RAM
-window_below : (a : ℕ) → in_device_window a ≡ true → a < 0x10025000
+pub window_below : (a : ℕ) → in_device_window a ≡ true → a < 0x10025000
 window_below a h = grind (arith, nat_tests)
 
 before_ram : (l : Layout) (a : ℕ) → a < 0x10025000 → in_ram l a 4 ≡ false

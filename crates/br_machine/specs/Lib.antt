@@ -8,3 +8,5 @@ pub mod Start
 pub mod Trace
 pub mod Run
 pub mod Junk
+pub mod Pages
+pub mod Kept

@@ -1,6 +1,7 @@
 // What an instruction does that breaks no rule.
 
-ghost use Rattle.std.specs.Prelude.{◌≡◌, ℕ, ◌%◌, ◌^◌, ◌<◌, ◌+◌, ◌-◌, None};
+ghost use Rattle.std.specs.Prelude.{◌≡◌, ℕ, ◌%◌, ◌^◌, ◌<◌, ◌+◌, ◌-◌, ◌||◌, None};
+ghost use Rattle.br_machine.specs.Pages.{is_made, page_count, stores_in};
 ghost use Rattle.br_words.specs.Words.{wrapped};
 ghost use Rattle.br_rv32im.specs.Encoding.{Fits};
 ghost use Rattle.br_machine.specs.Traps.{jump_trap, trap_of};
@@ -16,7 +17,7 @@ use br_rv32im::{BranchOp, Ins, LoadOp, StoreOp, UpperOp};
 impl Machine {
     // The address after this instruction.
     fn next_pc(&self) -> u32
-        ensures value { result ≡ next_pc self.now }
+        ensures value { result ≡ next_pc self.now.state }
         ensures aligned { result % 4 ≡ 0 }
     {
         self.pc().wrapping_add(4)
@@ -25,7 +26,7 @@ impl Machine {
     // A register takes a value, and the machine goes on after this instruction.
     fn compute(&mut self, rd: u32, v: u32)
         requires { rd < 32 }
-        ensures { self.new ≡ computes rd v self.old }
+        ensures { self.new ≡ record self.old { state = computes rd v self.old.state } }
     {
         self.set_pc(self.next_pc());
         self.set_register(rd, v);
@@ -34,7 +35,7 @@ impl Machine {
     // The machine goes on at a target that breaks no rule.
     fn set_target(&mut self, target: u32)
         requires { jump_trap target ≡ None }
-        ensures { self.new ≡ at_pc target self.old }
+        ensures { self.new ≡ record self.old { state = at_pc target self.old.state } }
     {
         self.set_pc(target);
     }
@@ -43,7 +44,7 @@ impl Machine {
     fn jump(&mut self, rd: u32, target: u32)
         requires rd { rd < 32 }
         requires target { jump_trap target ≡ None }
-        ensures { self.new ≡ jumps rd target self.old }
+        ensures { self.new ≡ record self.old { state = jumps rd target self.old.state } }
     {
         let after = self.next_pc();
         self.set_target(target);
@@ -52,7 +53,8 @@ impl Machine {
 
     fn upper(&mut self, op: UpperOp, rd: u32, field: u32) -> Stepped
         requires in_range { Fits (Ins.Upper op rd field) }
-        ensures machine { self.new ≡ (effect (Ins.Upper op rd field) self.old None).0 }
+        ensures machine { self.new.state ≡ (effect (Ins.Upper op rd field) self.old.state None).0 }
+        ensures made { self.new.made ≡ self.old.made }
         ensures end { result ≡ Stepped.Ran }
     {
         let high = field * 4096;
@@ -66,8 +68,9 @@ impl Machine {
 
     fn branch(&mut self, op: BranchOp, rs1: u32, rs2: u32, imm: i32) -> Stepped
         requires in_range { Fits (Ins.Branch op rs1 rs2 imm) }
-        requires fine { trap_of (Ins.Branch op rs1 rs2 imm) self.old ≡ None }
-        ensures machine { self.new ≡ (effect (Ins.Branch op rs1 rs2 imm) self.old None).0 }
+        requires fine { trap_of (Ins.Branch op rs1 rs2 imm) self.old.state ≡ None }
+        ensures machine { self.new.state ≡ (effect (Ins.Branch op rs1 rs2 imm) self.old.state None).0 }
+        ensures made { self.new.made ≡ self.old.made }
         ensures end { result ≡ Stepped.Ran }
     {
         if is_taken(op, self.register(rs1), self.register(rs2)) {
@@ -81,8 +84,9 @@ impl Machine {
     // The device word at `a` is read, where an answer is there.
     fn read_device(&mut self, rd: u32, a: u32, next_answer: Option<u32>) -> Stepped
         requires { rd < 32 }
-        ensures machine { self.new ≡ (device_read rd a self.old next_answer).0 }
-        ensures end { result ≡ (device_read rd a self.old next_answer).1 }
+        ensures machine { self.new.state ≡ (device_read rd a self.old.state next_answer).0 }
+        ensures made { self.new.made ≡ self.old.made }
+        ensures end { result ≡ (device_read rd a self.old.state next_answer).1 }
     {
         match next_answer {
             None => Stepped::Waiting(a),
@@ -95,8 +99,9 @@ impl Machine {
 
     fn load(&mut self, op: LoadOp, rd: u32, rs1: u32, imm: i32, next_answer: Option<u32>) -> Stepped
         requires in_range { Fits (Ins.Load op rd rs1 imm) }
-        ensures machine { self.new ≡ (effect (Ins.Load op rd rs1 imm) self.old next_answer).0 }
-        ensures end { result ≡ (effect (Ins.Load op rd rs1 imm) self.old next_answer).1 }
+        ensures machine { self.new.state ≡ (effect (Ins.Load op rd rs1 imm) self.old.state next_answer).0 }
+        ensures made { self.new.made ≡ self.old.made }
+        ensures end { result ≡ (effect (Ins.Load op rd rs1 imm) self.old.state next_answer).1 }
     {
         let a = self.address(rs1, imm);
         if !in_ram(self.layout(), a, load_size(op)) {
@@ -109,9 +114,13 @@ impl Machine {
 
     fn store(&mut self, op: StoreOp, rs1: u32, rs2: u32, imm: i32) -> Stepped
         requires in_range { Fits (Ins.Store op rs1 rs2 imm) }
-        ensures machine { self.new ≡ (effect (Ins.Store op rs1 rs2 imm) self.old None).0 }
-        ensures end { result ≡ (effect (Ins.Store op rs1 rs2 imm) self.old None).1 }
+        requires fine { trap_of (Ins.Store op rs1 rs2 imm) self.old.state ≡ None }
+        ensures machine { self.new.state ≡ (effect (Ins.Store op rs1 rs2 imm) self.old.state None).0 }
+        ensures made { (page : ℕ) → page < page_count self.old.state.layout → is_made self.new page
+            ≡ (stores_in (Ins.Store op rs1 rs2 imm) self.old.state page || is_made self.old page) }
+        ensures end { result ≡ (effect (Ins.Store op rs1 rs2 imm) self.old.state None).1 }
     {
+        self.well_formed();
         let a = self.address(rs1, imm);
         let v = self.register(rs2);
         self.set_pc(self.next_pc());
@@ -127,9 +136,11 @@ impl Machine {
     /// next.
     pub(crate) fn effect(&mut self, i: Ins, next_answer: Option<u32>) -> Stepped
         requires in_range { Fits i }
-        requires fine { trap_of i self.old ≡ None }
-        ensures machine { self.new ≡ (effect i self.old next_answer).0 }
-        ensures end { result ≡ (effect i self.old next_answer).1 }
+        requires fine { trap_of i self.old.state ≡ None }
+        ensures machine { self.new.state ≡ (effect i self.old.state next_answer).0 }
+        ensures made { (page : ℕ) → page < page_count self.old.state.layout →
+            is_made self.new page ≡ (stores_in i self.old.state page || is_made self.old page) }
+        ensures end { result ≡ (effect i self.old.state next_answer).1 }
     {
         match i {
             Ins::Upper(op, rd, field) => return self.upper(op, rd, field),

@@ -116,7 +116,7 @@ impl Machine {
     /// The address in a register and an immediate.
     pub(crate) fn address(&self, base: u32, imm: i32) -> u32
         requires { base < 32 }
-        ensures { result ≡ address self.now base imm }
+        ensures { result ≡ address self.now.state base imm }
     {
         self.register(base).wrapping_add_signed(imm)
     }
@@ -124,7 +124,7 @@ impl Machine {
     /// Where a JALR leads: the lowest bit is cleared.
     pub(crate) fn jalr_target(&self, base: u32, imm: i32) -> u32
         requires { base < 32 }
-        ensures { result ≡ jalr_target self.now base imm }
+        ensures { result ≡ jalr_target self.now.state base imm }
     {
         self.address(base, imm) / 2 * 2
     }
@@ -132,7 +132,7 @@ impl Machine {
     /// The rule that an instruction breaks, if it breaks one.
     pub(crate) fn trap_of(&self, i: Ins) -> Option<Trap>
         requires { Fits i }
-        ensures { result ≡ trap_of i self.now }
+        ensures { result ≡ trap_of i self.now.state }
     {
         match i {
             Ins::Jal(_, imm) => jump_trap(self.pc().wrapping_add_signed(imm)),
