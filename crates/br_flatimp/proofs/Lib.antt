@@ -6,3 +6,4 @@ pub mod Renamed
 pub mod Programs
 pub mod Uniform
 pub mod Forgetting
+pub mod Tests

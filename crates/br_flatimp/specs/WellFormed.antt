@@ -47,10 +47,10 @@ abbrev pub all_differ : List ℕ → Bool
 all_differ [] = true
 all_differ (x ∷ xs) = not (list_any (λ y. y == x) xs) && all_differ xs
 
--- a call with as many arguments and results as the function has that is called
-abbrev pub counts_fit : Option FlatFunc → List ℕ → List ℕ → Bool
-counts_fit (Some f) xs ys = (length xs == length f.results) && (length ys == length f.args)
-counts_fit None xs ys = false
+-- a call with as many results and arguments as the function has that is called
+abbrev pub counts_fit : Option FlatFunc → ℕ → ℕ → Bool
+counts_fit (Some f) results args = (results == length f.results) && (args == length f.args)
+counts_fit None results args = false
 
 -- what a statement holds beside names and parts is in range
 abbrev pub values_fit : {X : Type 0} → List FlatFunc → Stmt-F X → Bool
@@ -58,7 +58,7 @@ values_fit fs (Stmt-F.Op x op y z) = operand_fits op z
 values_fit fs (Stmt-F.Load x size y offset) = is_immediate offset
 values_fit fs (Stmt-F.Store size y z offset) = is_immediate offset
 values_fit fs (Stmt-F.Stackalloc x n body) = n % 4 == 0
-values_fit fs (Stmt-F.Call xs g ys) = counts_fit (slice_get fs g) xs ys && all_differ xs
+values_fit fs (Stmt-F.Call xs g ys) = counts_fit (slice_get fs g) (length xs) (length ys) && all_differ xs
 values_fit fs (Stmt-F.Lit x n) = true
 values_fit fs (Stmt-F.Copy x y) = true
 values_fit fs (Stmt-F.Table x size bytes y) = true
@@ -81,12 +81,13 @@ is_well_formed_statement fs names = throughout (fits fs names)
 abbrev pub is_list_of_names : ℕ → List ℕ → Bool
 is_list_of_names names xs = nat_le (length xs) 8 && are_below names xs && all_differ xs
 
+-- at most so many names, of which at most eight are arguments and at most eight results
+abbrev pub is_well_formed_head : FlatFunc → Bool
+is_well_formed_head f =
+    nat_le f.names 1048576 && is_list_of_names f.names f.args && is_list_of_names f.names f.results
+
 abbrev pub is_well_formed_function : List FlatFunc → FlatFunc → Bool
-is_well_formed_function fs f =
-    nat_le f.names 1048576
-    && is_list_of_names f.names f.args
-    && is_list_of_names f.names f.results
-    && list_all (is_well_formed_statement fs f.names) f.body
+is_well_formed_function fs f = is_well_formed_head f && list_all (is_well_formed_statement fs f.names) f.body
 
 -- no two functions have one name
 abbrev pub names_differ : List FlatFunc → Bool

@@ -8,9 +8,11 @@
 //! makes Refines of what holds of each function.
 #![tactic(auto)]
 
+mod forms;
 mod laws;
 mod program;
 
+pub use forms::well_formed;
 pub use laws::{
     forgetting_refines, liveness_is_least, refines_composes, renamed_programs_refine,
     runs_agree_on_live_names,
