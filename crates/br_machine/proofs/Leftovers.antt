@@ -32,23 +32,23 @@ all_below-append : (n : ℕ) (xs ys : List ℕ) → AllByRecursion (λ x. x < n)
 all_below-append n [] ys p q = q
 all_below-append n (x ∷ xs) ys p q = (p.0, all_below-append n xs ys p.1 q)
 
-all_below-replicate : (n k x : ℕ) → x < n → AllByRecursion (λ x. x < n) (replicate k x)
+pub all_below-replicate : (n k x : ℕ) → x < n → AllByRecursion (λ x. x < n) (replicate k x)
 all_below-replicate n zero x p = tt
 all_below-replicate n (suc k) x p = (p, all_below-replicate n k x p)
 
-all_below-code_bytes : (code : List ℕ) → AllByRecursion (λ b. b < 256) (code_bytes code)
+pub all_below-code_bytes : (code : List ℕ) → AllByRecursion (λ b. b < 256) (code_bytes code)
 all_below-code_bytes [] = tt
 all_below-code_bytes (w ∷ code) = all_below-append 256 (low_bytes 4 w) (code_bytes code) (all_below-low_bytes 4 w) (all_below-code_bytes code)
 
-all_below-with_words : (n : ℕ) (args registers : List ℕ) (r : ℕ) → AllByRecursion (λ x. x < n) args → AllByRecursion (λ x. x < n) registers → AllByRecursion (λ x. x < n) (with_words r args registers)
+pub all_below-with_words : (n : ℕ) (args registers : List ℕ) (r : ℕ) → AllByRecursion (λ x. x < n) args → AllByRecursion (λ x. x < n) registers → AllByRecursion (λ x. x < n) (with_words r args registers)
 all_below-with_words n [] registers r small all = all
 all_below-with_words n (v ∷ args) registers r small all = all_below-with_words n args (slice_set registers r v) (r + 1) small.1 (all_below-set n registers r v all small.0)
 
-length-with_words : (args registers : List ℕ) (r : ℕ) → length (with_words r args registers) ≡ length registers
+pub length-with_words : (args registers : List ℕ) (r : ℕ) → length (with_words r args registers) ≡ length registers
 length-with_words [] registers r = refl
 length-with_words (v ∷ args) registers r = length-with_words args (slice_set registers r v) (r + 1) ∙ length-set registers r v
 
-registers-junk_of : (word : ℕ) → (junk_of word).registers ≡ replicate 32 word
+pub registers-junk_of : (word : ℕ) → (junk_of word).registers ≡ replicate 32 word
 unfolding junk_of
 registers-junk_of word = refl
 

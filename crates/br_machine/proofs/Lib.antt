@@ -8,4 +8,6 @@ pub mod Words
 pub mod Leftovers
 pub mod Kept
 pub mod Made
+pub mod Starts
+pub mod Data
 pub mod Moments

@@ -1,7 +1,8 @@
 -- Which pages a store makes, and which pages are made at the start.
-use Rattle.std.proofs.Common.{◌≡◌, ℕ, ◌+◌, ◌-◌, ◌*◌, ◌%◌, ◌<◌, ◌≤◌, List, length, Option, Some, None, Bool, true, false, refl, sym, ap, ◌∙◌, arith}
+use Rattle.std.proofs.Common.{◌≡◌, inl, inr, ℕ, ◌+◌, ◌-◌, ◌*◌, ◌%◌, ◌<◌, ◌≤◌, List, [], ◌∷◌, ◌++◌, length, Option, Some, None, Bool, true, false, refl, sym, ap, subst, ◌∙◌, arith}
 use Rattle.std.specs.Prelude.{◌||◌, ◌&&◌, ◌==◌, if◌then◌else◌, slice_index_or}
-use Rattle.std.proofs.lemmas.Bool.{eqb-true}
+use Rattle.std.proofs.lemmas.Bool.{cases_lt, eqb-true}
+use Rattle.std.proofs.lemmas.List.{get_or_append_left, get_or-append-add}
 use Rattle.std.proofs.lemmas.Bool.Decides.{nat_tests}
 use Rattle.br_words.specs.Device.{in_device_window}
 use Rattle.br_words.specs.declared.layout.Layout.{Layout}
@@ -44,3 +45,19 @@ device_page l words a n page outside none =
     let low = device_store_low l words a n outside none in
     let above = (regions l).above in
     grind (arith, nat_tests)
+
+-- ---- the pages at the start
+
+-- what holds of the pages so far, and of one more
+pub one_page_more : (P : ℕ → Option (List ℕ) → Type 0) (pages : List (Option (List ℕ))) (x : Option (List ℕ)) (n : ℕ) → length pages ≡ n
+    → ((page : ℕ) → page < n → P page (slice_index_or pages page None)) → P n x
+    → (page : ℕ) → page < n + 1 → P page (slice_index_or (pages ++ x ∷ []) page None)
+one_page_more P pages x n count before here page h = elim (cases_lt page n) [
+  | inl p ↦ subst (P page) (sym (get_or_append_left pages (x ∷ []) None page (omega arith))) (before page p)
+  | inr p ↦
+    (let same : n ≡ page = omega arith in
+        let end : n ≡ length pages + 0 = omega arith in
+        let last : slice_index_or (pages ++ x ∷ []) n None ≡ x =
+        ap (λ q. slice_index_or (pages ++ x ∷ []) q None) end ∙ get_or-append-add pages (x ∷ []) 0 None in
+        subst (λ q. P q (slice_index_or (pages ++ x ∷ []) q None)) same (subst (P n) (sym last) here))
+]

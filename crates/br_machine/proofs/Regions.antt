@@ -1,5 +1,6 @@
 -- How the regions stand to one another, whatever the layout.
-use Rattle.std.proofs.Common.{◌≡◌, ◌⊎◌, inl, inr, ℕ, ◌+◌, ◌-◌, ◌*◌, ◌^◌, ◌%◌, ◌≤◌, refl, arith}
+use Rattle.std.proofs.Common.{◌≡◌, ◌⊎◌, inl, inr, ℕ, ◌+◌, ◌-◌, ◌*◌, ◌^◌, ◌%◌, ◌<◌, ◌≤◌, arith}
+use Rattle.std.proofs.lemmas.Bool.{cases_lt}
 use Rattle.br_words.specs.declared.layout.Layout.{Layout}
 use Rattle.br_words.specs.declared.layout.Layout.TheVariants.{One, Two}
 use Rattle.br_words.specs.Layout.{code_base, code_end, data_base, most_words, ram_base, ram_end, stack_end}
@@ -18,6 +19,8 @@ pub record Regions (l : Layout) : Type 0 where
   pub apart : (code_end l ≤ data_base) ⊎ (stack_end ≤ code_base l)
   pub words : code_base l + 4 * most_words l ≡ code_end l
   pub aligned : code_base l % 4 ≡ 0
+  -- pages begin where the data region does
+  pub data_page : (data_base - ram_base l) % 4096 ≡ 0
 
 pub regions : (l : Layout) → Regions l
 regions One = record {
@@ -31,6 +34,7 @@ regions One = record {
   apart = inl (omega arith);
   words = omega arith;
   aligned = omega arith;
+  data_page = omega arith;
 }
 regions Two = record {
   above = omega arith;
@@ -43,4 +47,17 @@ regions Two = record {
   apart = inr (omega arith);
   words = omega arith;
   aligned = omega arith;
+  data_page = omega arith;
 }
+
+-- what is in RAM is in the code region, or in the data region or the stack region
+pub in_one_region : (l : Layout) (a : ℕ) → ram_base l ≤ a → a < ram_end l
+    → ((code_base l ≤ a) × (a < code_end l)) ⊎ ((data_base ≤ a) × (a < stack_end))
+in_one_region One a from to = elim (cases_lt a (code_end One)) [
+  | inl h ↦ inl (omega arith, h)
+  | inr h ↦ inr (omega arith, omega arith)
+]
+in_one_region Two a from to = elim (cases_lt a (code_base Two)) [
+  | inl h ↦ inr (omega arith, omega arith)
+  | inr h ↦ inl (h, omega arith)
+]

@@ -1,13 +1,16 @@
 // Laws of the machine's step. Each function does nothing: what it ensures is the law.
 
-ghost use Rattle.std.specs.Prelude.{◌≡◌, ℕ, ◌+◌, ◌-◌, ◌*◌, ◌%◌, ◌<◌, ◌≤◌, Option, IfSome, slice_index, take, drop};
+ghost use Rattle.std.specs.Prelude.{◌≡◌, ℕ, ◌+◌, ◌-◌, ◌*◌, ◌%◌, ◌<◌, ◌≤◌, List, length, Option, IfSome, slice_index, take, drop};
+ghost use Rattle.std.specs.List.{AllByRecursion};
+ghost use Rattle.std.specs.FinMap as map;
 ghost use Rattle.br_bytes.specs.Number.{low_bytes};
+ghost use Rattle.br_bytes.specs.Memory.{Memory, with_bytes};
 ghost use Rattle.br_words.specs.Words.{IsWord};
 ghost use Rattle.br_machine.specs.State.{MachineState, IsMachine, code_place, register};
-ghost use Rattle.br_words.specs.Layout.{data_base, stack_end};
+ghost use Rattle.br_words.specs.Layout.{data_base, stack_base, stack_end};
 ghost use Rattle.br_machine.specs.Step.{step};
 ghost use Rattle.br_machine.specs.Steps.{Moment, after_steps};
-ghost use Rattle.br_machine.specs.Start.{IsLeftover};
+ghost use Rattle.br_machine.specs.Start.{IsInData, IsLeftover};
 ghost use Rattle.br_machine.specs.Junk.{junk_of};
 
 use crate::stepped::{Stepped, Trap};
@@ -60,4 +63,13 @@ pub fn junk_repeats_a_word()
     ensures leftover { (word : ℕ) → IsWord word → IsLeftover (junk_of word) }
     ensures bytes { (word a : ℕ) → data_base ≤ a → a < stack_end →
         slice_index (junk_of word).bytes (a - data_base) ≡ slice_index (low_bytes 4 word) (a % 4) }
+{}
+
+/// A memory to start with may be the empty one, or one that has its bytes in the data region, to
+/// which bytes of the data region are added.
+pub fn memories_of_the_data_region()
+    ensures empty { IsInData map.empty }
+    ensures more { (m : Memory) (a : ℕ) (bytes : List ℕ) →
+        IsInData m → AllByRecursion (λ b. b < 256) bytes →
+        data_base ≤ a → a + length bytes ≤ stack_base → IsInData (with_bytes m a bytes) }
 {}

@@ -1,11 +1,11 @@
 // RAM: the code's words, and its bytes in pages. A place is counted from RAM's low end.
 
-ghost use Rattle.std.specs.Prelude.{◌≡◌, ℕ, ◌+◌, ◌*◌, ◌/◌, ◌%◌, ◌<◌, ◌≤◌, true, false, min, max, length, slice_index, slice_index_or, slice_set};
+ghost use Rattle.std.specs.Prelude.{◌≡◌, ℕ, ◌+◌, ◌*◌, ◌/◌, ◌%◌, ◌<◌, ◌≤◌, true, false, min, max, length, map, is_some, slice_index, slice_index_or, slice_set};
 ghost use Rattle.br_words.specs.Layout.{most_words};
 ghost use Rattle.br_bytes.specs.Number.{number_of};
 ghost use Rattle.br_machine.specs.State.{bytes_from, code_place, ram_size};
 ghost use Rattle.br_machine.specs.Pages.{page_count, page_size};
-ghost use Rattle.br_machine.specs.Kept.{IsKept};
+ghost use Rattle.br_machine.specs.Kept.{IsKept, bytes_in};
 
 use crate::pages::{Page, byte_at, store, word_of};
 use br_words::Layout;
@@ -44,6 +44,29 @@ impl Model for Ram {
 }
 
 impl Ram {
+    /// RAM of these words of code, with these pages made.
+    pub(crate) fn of(layout: Layout, code: Vec<u32>, junk: u32, pages: Vec<Page>) -> Ram
+        requires { IsKept (record {
+          layout = layout;
+          code = code.items;
+          bytes = bytes_in layout code.items junk pages.items;
+          made = map is_some pages.items;
+        }) }
+        ensures { result ≡ record {
+          layout = layout;
+          code = code.items;
+          bytes = bytes_in layout code.items junk pages.items;
+          made = map is_some pages.items;
+        } }
+    {
+        Ram {
+            layout,
+            code,
+            junk,
+            pages,
+        }
+    }
+
     /// The code's bytes are those of its words. This does nothing: what it ensures is the law.
     pub(crate) fn well_formed(&self)
         ensures { IsKept self.now }
