@@ -1,6 +1,7 @@
 -- The words of commands.
-use Rattle.std.proofs.Common.{◌≡◌, ◌≤◌, ◌<◌, List, [], ◌∷◌, length, get_or, refl, sym, ◌∙◌, arith}
-use Rattle.std.specs.Prelude.{map, String}
+use Rattle.std.proofs.Common.{◌≡◌, ◌≤◌, ◌<◌, List, [], ◌∷◌, length, get_or, refl, sym, ◌∙◌, ap, arith, Option, Some, None}
+use Rattle.std.specs.Prelude.{ℕ, map, String, Bool, true, false, ◌&&◌, if◌then◌else◌}
+use Rattle.std.specs.Str.{bytes_eq}
 use Rattle.std.specs.declared.alloc.Global.{Global}
 use Rattle.br_top.specs.declared.command.Command.{Command}
 use Rattle.br_top.specs.declared.command.Command.TheVariants.{Compile, Print, List as Listing}
@@ -12,18 +13,33 @@ map-one f [] x y low high at e = absurd (omega arith)
 map-one f (w ∷ []) x y low high at e = cc
 map-one f (w ∷ v ∷ ws) x y low high at e = absurd (omega arith)
 
--- commands of the same words are one
-same_words : (c d : Command) → words_of c ≡ words_of d → c ≡ d
-same_words Compile Compile e = refl
-same_words Compile Print e = absurd (cc)
-same_words Compile Listing e = absurd (cc)
-same_words Print Compile e = absurd (cc)
-same_words Print Print e = refl
-same_words Print Listing e = absurd (cc)
-same_words Listing Compile e = absurd (cc)
-same_words Listing Print e = absurd (cc)
-same_words Listing Listing e = refl
+-- each text is the other's
+same_texts : List (List ℕ) → List (List ℕ) → Bool
+same_texts [] [] = true
+same_texts (x ∷ xs) (y ∷ ys) = bytes_eq x y && same_texts xs ys
+same_texts [] (y ∷ ys) = false
+same_texts (x ∷ xs) [] = false
+
+-- the first of these commands with these words
+first_of : List Command → List (List ℕ) → Option Command
+first_of [] words = None
+first_of (c ∷ cs) words = if same_texts (words_of c) words then Some c else first_of cs words
+
+-- the command with these words
+named : List (List ℕ) → Option Command
+named words = first_of (Compile ∷ Print ∷ Listing ∷ []) words
+
+-- each command is found by its words
+found : (c : Command) → named (words_of c) ≡ Some c
+unfolding same_texts first_of named
+found Compile = refl
+found Print = refl
+found Listing = refl
 
 -- words are those of one command
 pub one_command : (words : List (String Global)) (c d : Command) → AreWordsOf words c → AreWordsOf words d → c ≡ d
-one_command words c d first second = same_words c d (sym first ∙ second)
+one_command words c d first second =
+    let same : named (words_of c) ≡ named (words_of d) = ap named (sym first ∙ second) in
+    let one = found c in
+    let other = found d in
+    cc

@@ -1,13 +1,13 @@
 -- What each answer of the top call says of its ends.
-use Rattle.std.specs.Prelude.{ℕ, ◌≡◌, ◌+◌, ◌≤◌, List, length, Option, ◌⊎◌, String}
+use Rattle.std.specs.Prelude.{ℕ, ◌≡◌, ◌+◌, ◌≤◌, List, length, Option, ◌⊎◌, String, IsTrue}
 use Rattle.std.specs.declared.alloc.Global.{Global}
 use Rattle.std.specs.Io.KnownBytes.{Consumes, IsAtEnd}
-use Rattle.br_base.specs.Ends.{ConsumesMany}
+use Rattle.br_base.specs.Ends.{ConsumesMany, ConsumesAtMost}
 use Rattle.br_top.specs.declared.command.Command.{Command}
 use Rattle.br_top.specs.declared.trouble.Reason.{Reason}
 use Rattle.br_top.specs.declared.trouble.Reason.TheVariants.{TooLong}
 use Rattle.br_top.specs.Refusals.{reason_line}
-use Rattle.br_top.specs.Commands.{AreWordsOf, limit_of, Adds, Refuses}
+use Rattle.br_top.specs.Commands.{AreWordsOf, reads_input, limit_of, Adds, Refuses}
 
 -- The bytes that an end tells, before a call and after it, are written `before` and `after`.
 
@@ -24,16 +24,28 @@ ReadsRefused command before after reason =
     ((reason ≡ TooLong) × ConsumesMany before after (limit_of command + 1))
     ⊎ ((bytes : List ℕ) × ReadsAll command before after bytes × Refuses command bytes reason)
 
--- the words are a command's, its input was read to its end, and it adds this text for its bytes
+-- nothing refuses an input of these bytes
+abbrev pub IsUnrefused : Command → List ℕ → Type 0
+IsUnrefused command bytes = (reason : Reason) → ¬ Refuses command bytes reason
+
+-- the words are a command's, its input was read to its end, nothing refuses its bytes, and it adds this
+-- text for them
 abbrev pub IsDueText : List (String Global) → Option (List ℕ) → Option (List ℕ) → List ℕ → Type 0
 IsDueText words before after text =
-    (command : Command) × (bytes : List ℕ) × AreWordsOf words command × ReadsAll command before after bytes × Adds command bytes text
+    (command : Command) × (bytes : List ℕ) × AreWordsOf words command × ReadsAll command before after bytes
+    × IsUnrefused command bytes × Adds command bytes text
 
 -- the words are a command's, what was read of its input is refused, and this line says why
 abbrev pub IsDueLine : List (String Global) → Option (List ℕ) → Option (List ℕ) → List ℕ → Type 0
 IsDueLine words before after line =
     (command : Command) × (reason : Reason) × AreWordsOf words command × ReadsRefused command before after reason × (line ≡ reason_line reason)
 
--- nothing refuses an input of these bytes
-abbrev pub IsUnrefused : Command → List ℕ → Type 0
-IsUnrefused command bytes = (reason : Reason) → ¬ Refuses command bytes reason
+-- the words are a command's that reads its input, and no more bytes were taken than it reads at most
+abbrev pub FailsWithin : List (String Global) → Option (List ℕ) → Option (List ℕ) → Type 0
+FailsWithin words before after =
+    (command : Command) × AreWordsOf words command × IsTrue (reads_input command) × ConsumesAtMost before after (limit_of command)
+
+-- the words are a command's, and at most one byte more was taken than it reads at most
+abbrev pub StopsWithin : List (String Global) → Option (List ℕ) → Option (List ℕ) → Type 0
+StopsWithin words before after =
+    (command : Command) × AreWordsOf words command × ConsumesAtMost before after (limit_of command + 1)

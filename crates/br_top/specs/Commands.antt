@@ -1,5 +1,5 @@
 -- The commands: their words, how much they read, what they make of it, and what they refuse.
-use Rattle.std.specs.Prelude.{ℕ, ◌≡◌, ◌<◌, List, [], ◌∷◌, length, codes, map, ⊤, String}
+use Rattle.std.specs.Prelude.{ℕ, ◌≡◌, ◌<◌, List, [], ◌∷◌, length, codes, map, ⊤, String, Bool, true}
 use Rattle.std.specs.declared.alloc.Global.{Global}
 use Rattle.std.specs.String.{string_bytes}
 use Rattle.br_sexpr.specs.declared.tree.Tree.{Tree}
@@ -33,6 +33,12 @@ AreWordsOf words command = map string_bytes words ≡ words_of command
 -- these texts are the words of some command
 abbrev pub AreWords : List (String Global) → Type 0
 AreWords words = (command : Command) × AreWordsOf words command
+
+-- whether a command reads its input
+abbrev pub reads_input : Command → Bool
+reads_input Compile = true
+reads_input Print = true
+reads_input Listing = true
 
 -- how many bytes of input a command reads at most
 abbrev pub limit_of : Command → ℕ

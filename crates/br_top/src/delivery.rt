@@ -32,7 +32,8 @@ pub(crate) fn answer_line<E: Sink>(err: &mut E, line: &[u8], status: Status) -> 
 
 /// Writes a finished text.
 pub(crate) fn answer_text<O: Sink, E: Sink>(out: &mut O, err: &mut E, text: &[u8]) -> Status
-    ensures answered { ((result ≡ Status.Done) × Appends (O.held out.old) (O.held out.new) text.now × (err.new ≡ err.old))
+    ensures answered { ((result ≡ Status.Done) × Appends (O.held out.old) (O.held out.new) text.now
+        × (O.faults out.new ≡ O.faults out.old) × (err.new ≡ err.old))
         ⊎ ((result ≡ Status.WriteFault) × Rose (O.faults out.old) (O.faults out.new)
         × AppendsSome (O.held out.old) (O.held out.new) text.now
         × Tells (E.faults err.old) (E.faults err.new) (E.held err.old) (E.held err.new) write_fault_line) }

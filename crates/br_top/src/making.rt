@@ -1,9 +1,9 @@
 // Making texts: from the bytes of the input to the whole text of the answer.
 
-ghost use Rattle.std.specs.Prelude.{◌≡◌, ◌≤◌, ℕ, List, length, IfOk, IfErr, Err, IsErrOf};
-ghost use Rattle.br_base.specs.Ends.{Rose};
+ghost use Rattle.std.specs.Prelude.{◌≡◌, ◌≤◌, ◌+◌, ℕ, List, length, IfOk, OnOk, IfErr, Err, IsErrOf, IsTrue};
+ghost use Rattle.br_base.specs.Ends.{Rose, ConsumesAtMost};
 ghost use Rattle.br_top.specs.declared.trouble.Reason.{Reason};
-ghost use Rattle.br_top.specs.Commands.{Adds, Refuses, limit_of};
+ghost use Rattle.br_top.specs.Commands.{Adds, Refuses, limit_of, reads_input};
 ghost use Rattle.br_top.specs.Answers.{ReadsAll, ReadsRefused, IsUnrefused};
 ghost use Rattle.br_top.specs.Troubles.{IsRefusedFor};
 
@@ -24,7 +24,10 @@ pub(crate) fn made_text<S: Source>(
     ensures made { IfOk result (λ text. (bytes : List ℕ) × ReadsAll command (S.left input.old) (S.left input.new) bytes
         × IsUnrefused command bytes × Adds command bytes text.items) }
     ensures refused { (reason : Reason) → result ≡ Err (Trouble.Refused reason) → ReadsRefused command (S.left input.old) (S.left input.new) reason }
-    ensures failed { IsErrOf result Trouble.ReadFault → Rose (S.faults input.old) (S.faults input.new) }
+    ensures failed { IsErrOf result Trouble.ReadFault → Rose (S.faults input.old) (S.faults input.new)
+        × IsTrue (reads_input command) × ConsumesAtMost (S.left input.old) (S.left input.new) (limit_of command) }
+    ensures memory { IsErrOf result Trouble.Memory → ConsumesAtMost (S.left input.old) (S.left input.new) (limit_of command + 1) }
+    ensures sound { OnOk result (S.faults input.new ≡ S.faults input.old) }
     ensures count { S.faults input.old ≤ S.faults input.new }
 {
     let bytes = read_all(alloc, input, limit_of(command))?;

@@ -367,3 +367,16 @@ fn long_texts(rt: HostRuntime) -> Result<(), Fail> {
     }
     Ok(())
 }
+
+#[test]
+fn texts_of_every_length(rt: HostRuntime) -> Result<(), Fail> {
+    let alloc = rt.alloc();
+    let words = [String::from_str(alloc, "print")?];
+    for len in 0..=9_000 {
+        let mut input = SureSource::new(vec![in alloc; b' '; len]?);
+        let (mut out, mut err) = (SureSink::new(), SureSink::new());
+        let status = tool(alloc, &words, &mut input, &mut out, &mut err);
+        assert_eq!(rt; status, Status::Done);
+    }
+    Ok(())
+}

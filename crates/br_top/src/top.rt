@@ -8,7 +8,7 @@ ghost use Rattle.br_top.specs.declared.trouble.Reason.{Reason};
 ghost use Rattle.br_top.specs.Commands.{AreWords, AreWordsOf, Refuses};
 ghost use Rattle.br_top.specs.Lines.{usage_line, read_fault_line, write_fault_line, no_memory_line};
 ghost use Rattle.br_top.specs.Refusals.{reason_line};
-ghost use Rattle.br_top.specs.Answers.{IsDueText, IsDueLine, IsUnrefused};
+ghost use Rattle.br_top.specs.Answers.{IsDueText, IsDueLine, IsUnrefused, FailsWithin, StopsWithin};
 ghost use Rattle.br_top.specs.Reports.{Tells};
 
 use crate::command::command_of;
@@ -23,7 +23,7 @@ use std::alloc::Global;
 /// Does what the words ask for, which leave out the program's own name.
 ///
 /// First the words are judged, which takes no memory; then the input is read to its end, or to the
-/// byte behind the command's limit; then it is refused, or the whole text of the answer is made; and
+/// byte after the command's limit; then it is refused, or the whole text of the answer is made; and
 /// then the text is written. Want of memory may come at any moment after the words.
 pub fn tool<S: Source, O: Sink, E: Sink>(
     alloc: Global,
@@ -32,10 +32,12 @@ pub fn tool<S: Source, O: Sink, E: Sink>(
     out: &mut O,
     err: &mut E,
 ) -> Status
-    // The output gained the text that is due, and standard error nothing.
+    // The output gained the text that is due, and standard error nothing. No end failed.
     ensures done { result ≡ Status.Done → (text : List ℕ)
         × IsDueText words.now (S.left input.old) (S.left input.new) text
         × Appends (O.held out.old) (O.held out.new) text
+        × (S.faults input.new ≡ S.faults input.old)
+        × (O.faults out.new ≡ O.faults out.old)
         × (err.new ≡ err.old) }
 
     // What was read is refused, and standard error gained the line that says why.
@@ -51,9 +53,9 @@ pub fn tool<S: Source, O: Sink, E: Sink>(
         × (out.new ≡ out.old) }
     ensures unread { ¬ AreWords words.now → input.new ≡ input.old }
 
-    // The input failed.
+    // The input failed, and nothing was read after that.
     ensures read_fault { result ≡ Status.ReadFault →
-        AreWords words.now
+        FailsWithin words.now (S.left input.old) (S.left input.new)
         × Rose (S.faults input.old) (S.faults input.new)
         × Tells (E.faults err.old) (E.faults err.new) (E.held err.old) (E.held err.new) read_fault_line
         × (out.new ≡ out.old) }
@@ -63,6 +65,7 @@ pub fn tool<S: Source, O: Sink, E: Sink>(
     ensures write_fault { result ≡ Status.WriteFault →
         ((text : List ℕ)
         × IsDueText words.now (S.left input.old) (S.left input.new) text
+        × (S.faults input.new ≡ S.faults input.old)
         × Rose (O.faults out.old) (O.faults out.new)
         × AppendsSome (O.held out.old) (O.held out.new) text
         × Tells (E.faults err.old) (E.faults err.new) (E.held err.old) (E.held err.new) write_fault_line)
@@ -74,7 +77,7 @@ pub fn tool<S: Source, O: Sink, E: Sink>(
 
     // There was no memory.
     ensures no_memory { result ≡ Status.NoMemory →
-        AreWords words.now
+        StopsWithin words.now (S.left input.old) (S.left input.new)
         × Tells (E.faults err.old) (E.faults err.new) (E.held err.old) (E.held err.new) no_memory_line
         × (out.new ≡ out.old) }
 

@@ -17,9 +17,11 @@ returns-in-Ok-clause-done g c is =
           let command = c.in-Some.command in
           let P : List ℕ → Type 0 = λ text. Adds command made.0 text in (
             c.deref.result.now,
-            (command, made.0, c.in-Some.ensures, made.1, subst P (sym c.deref.ensures.value) made.3),
+            (command, made.0, c.in-Some.ensures, made.1, made.2, subst P (sym c.deref.ensures.value) made.3),
             done.1,
+            c.in-Ok.ensures.sound,
             done.2,
+            done.3,
           )
       | inr failed ↦ absurd (let no = failed.0 in cc)
     ]
@@ -35,7 +37,8 @@ returns-in-Ok-clause-write_fault g c is =
           let P : List ℕ → Type 0 = λ text. Adds command made.0 text in
           inl (
             c.deref.result.now,
-            (command, made.0, c.in-Some.ensures, made.1, subst P (sym c.deref.ensures.value) made.3),
+            (command, made.0, c.in-Some.ensures, made.1, made.2, subst P (sym c.deref.ensures.value) made.3),
+            c.in-Ok.ensures.sound,
             failed.1,
             failed.2,
             failed.3,
