@@ -7,3 +7,5 @@ pub mod Programs
 pub mod Uniform
 pub mod Forgetting
 pub mod Tests
+pub mod Leaves
+pub mod Widens
