@@ -9,3 +9,4 @@ pub mod Forgetting
 pub mod Tests
 pub mod Leaves
 pub mod Widens
+pub mod Given

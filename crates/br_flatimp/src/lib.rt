@@ -11,6 +11,7 @@
 mod forms;
 mod laws;
 mod program;
+mod run_laws;
 
 pub use forms::well_formed;
 pub use laws::{
@@ -18,3 +19,4 @@ pub use laws::{
     runs_agree_on_live_names,
 };
 pub use program::{Cond, FlatFunc, FlatProgram, Operand, Proposal, Rel, Stmt};
+pub use run_laws::{bounds_do_not_show, longer_lists_stay, more_fuel_goes_on, runs_only_take};
