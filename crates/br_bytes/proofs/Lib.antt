@@ -1,7 +1,13 @@
 pub mod Bytes
-pub mod Stored
 pub mod Away
 pub mod Whole
 pub mod Leaves
 pub mod Widens
 pub mod Given
+pub mod Ranged
+pub mod Changed
+pub mod Placed
+pub mod Seen
+pub mod Effects
+pub mod Cuts
+pub mod Kept

@@ -1,5 +1,6 @@
 -- Lemmas on ranges of which a memory has each byte.
-use Rattle.std.proofs.Common.{◌≡◌, ℕ, zero, suc, ◌+◌, ◌/◌, ◌%◌, ◌^◌, ◌<◌, Bool, true, false, is_some, IsTrue, List, [], ◌∷◌, Option, Some, None, cond, refl, sym, ap, subst, ◌∙◌, arith}
+use Rattle.std.proofs.Common.{◌≡◌, ℕ, zero, suc, ◌+◌, ◌/◌, ◌%◌, ◌^◌, ◌<◌, ◌≤◌, Bool, true, false, nat_lt, is_some, IsTrue, List, [], ◌∷◌, Option, Some, None, cond, refl, sym, ap, subst, ◌∙◌, arith}
+use Rattle.std.proofs.lemmas.Bool.Decides.{nat_tests}
 use Rattle.std.specs.Ordering.{nat_cmp, eq_by_cmp}
 use Rattle.std.specs.FinMap as map
 use Rattle.std.specs.Cmp.{nat_cmp_total}
@@ -88,3 +89,29 @@ whole_step m a k h = go (map.get m (place a)) (bytes_at m (a + 1) k) h
     go (Some b) (Some bs) h = refl
     go (Some b) None h = refl
     go None bs h = cc
+
+-- a range is whole where each of its bytes is there
+pub whole_all : (n : ℕ) (m : Memory) (a : ℕ) → a + n ≤ 2 ^ 32 → ((q : ℕ) → a ≤ q → q < a + n → IsTrue (map.contains_key m q)) → is_whole m a n ≡ true
+whole_all zero m a fits all = refl
+whole_all (suc k) m a fits all =
+    let here : a ≡ place a = omega arith in
+    whole_step m a k (subst (λ q. IsTrue (map.contains_key m q)) here (all a (omega arith) (omega arith)))
+    ∙ whole_all k m (a + 1) (omega arith) (λ q l h. all q (omega arith) (omega arith))
+
+none_there : (o : Option ℕ) → is_some o ≡ false → o ≡ None
+none_there None e = refl
+none_there (Some b) e = cc
+
+pub whole_not : (n : ℕ) (m : Memory) (a q : ℕ) → a + n ≤ 2 ^ 32 → a ≤ q → q < a + n → map.get m q ≡ None → is_whole m a n ≡ false
+whole_not zero m a q fits l h none = absurd (omega arith)
+whole_not (suc k) m a q fits l h none = go (whole_not k m (a + 1) q (omega arith)) (nat_lt a q) (is_some (map.get m (place a))) refl refl
+  where
+    go : (a + 1 ≤ q → q < a + 1 + k → map.get m q ≡ None → is_whole m (a + 1) k ≡ false) → (t u : Bool) → nat_lt a q ≡ t → is_some (map.get m (place a)) ≡ u → is_whole m a (suc k) ≡ false
+    go rest t false e f = whole_none m a k (none_there (map.get m (place a)) f)
+    go rest true true e f =
+        let g : a < q = grind (arith, nat_tests) in
+        whole_step m a k f ∙ rest (omega arith) (omega arith) none
+    go rest false true e f =
+        let g : q ≤ a = grind (arith, nat_tests) in
+        let here : q ≡ place a = omega arith in
+        whole_none m a k (ap (map.get m) (sym here) ∙ none)

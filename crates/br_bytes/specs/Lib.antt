@@ -1,6 +1,8 @@
 pub mod Memory
 pub mod Number
 pub mod Buffers
+pub mod Range
+pub mod Changes
 pub mod Ranges
 pub mod Called
 pub mod Runs

@@ -7,36 +7,44 @@ ghost use Rattle.br_bytes.specs.Number.{low_bytes};
 ghost use Rattle.std.specs.FinMap as map;
 ghost use Rattle.br_words.specs.Size.{size_of};
 ghost use Rattle.br_bytes.specs.declared.byte_map.Overlap.{Overlap};
-ghost use Rattle.br_bytes.specs.Memory.{place, bytes_at, get_number, put_number, with_bytes};
+ghost use Rattle.br_bytes.specs.Memory.{IsMemory, place, bytes_at, get_number, put_number, with_bytes};
 ghost use Rattle.br_bytes.specs.Buffers.{are_free, without_range};
+ghost use Rattle.br_bytes.specs.Range.{ranges, range_at, byte_of, AreApart};
 ghost use Rattle.br_bytes.specs.Ranges.{IsFirstTaken, is_whole};
 
+use crate::byte_range::ByteRange;
+use crate::ranges::{add, byte_at, clear, covers, first_within, put_byte};
 use br_base::{NoMemory, OrMemory};
 use br_words::Size;
 use std::alloc::Global;
-use std::collections::BTreeMap;
 use std::marker::Model;
 
 /// The first address of a range that has a byte already.
 #[derive(Clone, Copy, Debug, Drop, PartialEq, Eq)]
 pub struct Overlap(pub u32);
 
-/// A memory: bytes at some of the addresses below 2^32. Contracts see it as a finite map.
+/// A memory: bytes at some of the addresses below 2^32. Contracts see it as a finite map. It keeps
+/// the maximal runs of consecutive addresses by rising address, each with its bytes in one piece:
+/// an address is found by a binary search, and what is added or removed moves its own bytes, the
+/// other ranges, and the bytes of a range that it cuts or that it joins to the one before.
 #[derive(Debug, Drop)]
 pub struct ByteMap {
-    bytes: BTreeMap<u32, u8>,
+    ranges: Vec<ByteRange>,
 }
 
 impl Model for ByteMap {
     ghost use Rattle.std.specs.FinMap as map;
     ghost use Rattle.std.specs.Coded.{coded_ℕ};
-    ghost use Rattle.br_bytes.specs.Memory.{Memory};
+    ghost use Rattle.br_bytes.specs.Memory.{Memory, IsMemory};
+    ghost use Rattle.br_bytes.specs.Range.{memory_of, AreApart};
 
     ghost Value = { Memory };
 
     ghost coded = { map.code coded_ℕ coded_ℕ };
 
-    ghost view = { λ m. map.from_entries m.bytes.entries };
+    ghost view = { λ m. memory_of m.ranges.items };
+
+    ghost invariant = { λ m. record { apart : AreApart 0 m.ranges.items; is_memory : IsMemory (memory_of m.ranges.items) } };
 }
 
 impl ByteMap {
@@ -45,7 +53,7 @@ impl ByteMap {
         ensures { result ≡ map.empty }
     {
         ByteMap {
-            bytes: BTreeMap::new(alloc),
+            ranges: Vec::new(alloc),
         }
     }
 
@@ -53,7 +61,47 @@ impl ByteMap {
     pub fn byte(&self, a: u32) -> Option<u8>
         ensures { result ≡ map.get self.now a }
     {
-        self.bytes.get(&a).copied()
+        byte_at(self.ranges.as_slice(), a)
+    }
+
+    /// How many maximal runs of consecutive addresses there are. 0xFFFFFFFF and 0 are not
+    /// consecutive.
+    pub fn ranges(&self) -> u32
+        ensures { result ≡ length (ranges self.now) }
+    {
+        self.ranges.as_slice().len() as u32
+    }
+
+    /// The first address of the i-th run, counted from 0 by rising address.
+    pub fn range_start(&self, i: u32) -> u32
+        requires { i < length (ranges self.now) }
+        ensures { result ≡ (range_at self.now i).start }
+    {
+        self.ranges[i as usize].start()
+    }
+
+    /// The bytes of the i-th run, counted from 0 by rising address.
+    pub fn range_bytes(&self, i: u32) -> &[u8]
+        requires { i < length (ranges self.now) }
+        ensures { result.now ≡ (range_at self.now i).bytes }
+    {
+        self.ranges[i as usize].bytes()
+    }
+
+    /// Each memory has bytes below 256 at addresses below 2^32. The call does nothing.
+    pub fn is_memory(&self)
+        ensures { IsMemory self.now }
+    {
+        let _ = &self.ranges;
+    }
+
+    /// The runs of a memory have its bytes, and between two of them an address is free. The call
+    /// does nothing.
+    pub fn runs_have_bytes(&self)
+        ensures bytes { (q : ℕ) → map.get self.now q ≡ byte_of (ranges self.now) q }
+        ensures apart { AreApart 0 (ranges self.now) }
+    {
+        let _ = &self.ranges;
     }
 
     /// The number in the bytes from `a` on, the lowest byte first, the addresses counted modulo
@@ -91,24 +139,12 @@ impl ByteMap {
 }
 
 impl ByteMap {
-    // Puts a byte at an address, where there may be one. Only a new one takes memory.
-    fn insert(&mut self, a: u32, b: u8) -> Result<(), NoMemory>
-        ensures ok { OnOk result (self.new ≡ map.insert self.old a b) }
-        ensures err { OnErr result (self.new ≡ self.old) }
-        ensures new { OnErr result (map.get self.old a ≡ None) }
-    {
-        self.bytes.insert(a, b)?;
-        Ok(())
-    }
-
     // Puts a byte at an address that has one.
     fn replace(&mut self, a: u32, b: u8)
         requires { IsTrue (map.contains_key self.old a) }
         ensures { self.new ≡ map.insert self.old a b }
     {
-        if self.insert(a, b).is_err() {
-            unreachable!()
-        }
+        put_byte(&mut self.ranges, a, b);
     }
 
     // Puts the n low bytes of a number where there are bytes.
@@ -144,31 +180,7 @@ impl ByteMap {
         ensures taken { IfSome result (IsFirstTaken self.now a n) }
         ensures free { result ≡ None → (q : ℕ) → a ≤ q → q < a + n → map.get self.now q ≡ None }
     {
-        for i in 0..n {
-            let at = a + i as u32;
-            if self.byte(at).is_some() {
-                return Some(at);
-            }
-        }
-        None
-    }
-
-    // Takes the bytes from `a + first` up to `a + n` away.
-    fn forget(&mut self, a: u32, first: usize, n: usize)
-        requires within { a + n ≤ 2 ^ 32 }
-        requires ordered { first ≤ n }
-        ensures { self.new ≡ without_range self.old (a + first) (n - first) }
-    {
-        for i in first..n {
-            self.remove(a + i as u32);
-        }
-    }
-
-    // Takes the byte at an address away, where there is one.
-    fn remove(&mut self, a: u32)
-        ensures { self.new ≡ map.remove self.old a }
-    {
-        self.bytes.remove(&a);
+        first_within(self.ranges.as_slice(), a, n)
     }
 
     /// Adds bytes from `a` on. `Overlap` comes exactly where one of the addresses has a byte
@@ -187,23 +199,17 @@ impl ByteMap {
         }
     }
 
-    // Adds bytes at addresses that have none, the last first.
+    // Adds bytes at addresses that have none.
     fn add_free(&mut self, a: u32, bytes: &[u8]) -> Result<(), NoMemory>
         requires within { a + length bytes.now ≤ 2 ^ 32 }
         requires free { IsTrue (are_free self.old a bytes.now) }
         ensures ok { OnOk result (self.new ≡ with_bytes self.old a bytes.now) }
         ensures err { OnErr result (self.new ≡ self.old) }
     {
-        let n = bytes.len();
-        let mut i = n;
-        while i > 0 {
-            i -= 1;
-            if self.insert(a + i as u32, bytes[i]).is_err() {
-                self.forget(a, i + 1, n);
-                return Err(NoMemory);
-            }
+        if bytes.is_empty() {
+            return Ok(());
         }
-        Ok(())
+        add(&mut self.ranges, a, bytes)
     }
 
     // Whether each of the n addresses from `a` on has a byte.
@@ -211,12 +217,7 @@ impl ByteMap {
         requires { a + n ≤ 2 ^ 32 }
         ensures { result ≡ is_whole self.now a n }
     {
-        for i in 0..n {
-            if self.byte(a + i).is_none() {
-                return false;
-            }
-        }
-        true
+        n == 0 || covers(self.ranges.as_slice(), a, n)
     }
 
     /// Takes the n bytes from `a` on away. `Ok(false)` comes exactly where one of them is missing;
@@ -230,16 +231,21 @@ impl ByteMap {
     {
         let whole = self.is_whole(a, n);
         if whole {
-            self.forget(a, 0, n as usize);
+            self.clear_range(a, n)?;
         }
         Ok(whole)
     }
 
-    /// Takes whatever bytes there are among the n from `a` on away.
-    pub fn clear_range(&mut self, a: u32, n: u32)
+    /// Takes whatever bytes there are among the n from `a` on away. Only bytes that have others on
+    /// both sides take memory; after a refusal the memory is as before.
+    pub fn clear_range(&mut self, a: u32, n: u32) -> Result<(), NoMemory>
         requires { a + n ≤ 2 ^ 32 }
-        ensures { self.new ≡ without_range self.old a n }
+        ensures ok { OnOk result (self.new ≡ without_range self.old a n) }
+        ensures err { OnErr result (self.new ≡ self.old) }
     {
-        self.forget(a, 0, n as usize);
+        if n == 0 {
+            return Ok(());
+        }
+        clear(&mut self.ranges, a, u64::from(a) + u64::from(n))
     }
 }

@@ -2,7 +2,9 @@
 #![tactic(auto)]
 
 mod byte_map;
+mod byte_range;
 mod laws;
+mod ranges;
 mod run;
 
 pub use byte_map::{ByteMap, Overlap};
