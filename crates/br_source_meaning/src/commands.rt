@@ -105,7 +105,7 @@ impl<'a> Running<'a> {
     {
         let a = self.take_buffer(x, n)?;
         self.commands(alloc, funcs, room, body)?;
-        self.memory.clear_range(a, n);
+        self.memory.clear_range(a, n)?;
         Ok(())
     }
 
