@@ -1,15 +1,11 @@
 -- Lemmas on a memory without a range.
-use Rattle.std.proofs.Common.{◌≡◌, ◌≢◌, ℕ, ◌+◌, ◌^◌, ◌<◌, ◌≤◌, Bool, true, false, not, ◌&&◌, nat_le, nat_lt, is_some, List, [], ◌∷◌, length, drop, length-drop, Option, Some, None, cond, refl, sym, ap, ◌∙◌, arith}
+use Rattle.std.proofs.Common.{◌≡◌, ℕ, ◌+◌, ◌<◌, ◌≤◌, Bool, true, false, not, ◌&&◌, nat_le, nat_lt, is_some, List, [], ◌∷◌, length, Option, Some, None, cond, refl, sym, ap, ◌∙◌, arith}
 use Rattle.std.proofs.lemmas.Bool.Decides.{nat_tests}
-use Rattle.std.specs.Ordering.{nat_cmp, is_eq}
-use Rattle.std.specs.declared.cmp.Ordering.{Ordering}
-use Rattle.std.specs.declared.cmp.Ordering.TheVariants.{Less, Equal, Greater}
 use Rattle.std.specs.FinMap as map
 use Rattle.std.specs.Cmp.{nat_cmp_total}
-use Rattle.br_bytes.specs.Memory.{Memory, with_bytes}
+use Rattle.br_bytes.specs.Memory.{Memory}
 use Rattle.br_bytes.specs.Buffers.{are_free, without_range}
 use Rattle.br_bytes.specs.Ranges.{IsFirstTaken}
-use Rattle.br_bytes.proofs.Bytes.{get-with_bytes_other}
 
 pub get-without : (m : Memory) (a n q : ℕ) → map.get (without_range m a n) q ≡ cond (not (nat_le a q && nat_lt q (a + n))) (map.get m q) None
 get-without m a n q = map.get-retain_keys m (λ q. not (nat_le a q && nat_lt q (a + n))) q (λ x e. ap (λ q. not (nat_le a q && nat_lt q (a + n))) (sym (map.nat_cmp-IsAntisymmetric q x e)))
@@ -23,35 +19,12 @@ get-without_below m a n q low = let e = get-without m a n q in grind (arith, nat
 pub get-without_above : (m : Memory) (a n q : ℕ) → a + n ≤ q → map.get (without_range m a n) q ≡ map.get m q
 get-without_above m a n q high = let e = get-without m a n q in grind (arith, nat_tests)
 
-pub get-remove_same : (m : Memory) (k : ℕ) → map.get (map.remove m k) k ≡ None
-get-remove_same m k = grind (map.gets, arith)
-
-pub get-remove_other : (m : Memory) (k q : ℕ) → q ≢ k → map.get (map.remove m k) q ≡ map.get m q
-get-remove_other m k q ne = map.get-remove nat_cmp_total m k q ∙ from (nat_cmp q k) refl
-  where
-    from : (o : Ordering) → nat_cmp q k ≡ o → cond (is_eq o) None (map.get m q) ≡ map.get m q
-    from Less e = refl
-    from Equal e = absurd (ne (map.nat_cmp-IsAntisymmetric q k e))
-    from Greater e = refl
-
 -- memories that answer alike are one
 pub same_memory : (m n : Memory) → ((q : ℕ) → map.get m q ≡ map.get n q) → m ≡ n
 same_memory m n h = map.same_map nat_cmp_total map.nat_cmp-IsAntisymmetric m n h
 
 pub without_none : (m : Memory) (a n : ℕ) → n ≡ 0 → without_range m a n ≡ m
 without_none m a n e = same_memory _ _ (λ q. let g = get-without m a n q in grind (arith, nat_tests))
-
--- one more byte is away
-pub without_next : (m : Memory) (a n k at : ℕ) → k ≡ n + 1 → at ≡ a + n → map.remove (without_range m a n) at ≡ without_range m a k
-without_next m a n k at e f = same_memory _ _ (λ q. go q (nat_cmp q at) refl)
-  where
-    go : (q : ℕ) (o : Ordering) → nat_cmp q at ≡ o → map.get (map.remove (without_range m a n) at) q ≡ map.get (without_range m a k) q
-    go q Equal is = let s : q ≡ at = map.nat_cmp-IsAntisymmetric q at is in
-        map.get-remove nat_cmp_total (without_range m a n) at q ∙ ap (λ o. cond (is_eq o) None (map.get (without_range m a n) q)) is ∙ sym (get-without_in m a k q (omega arith) (omega arith))
-    go q Less is =
-        map.get-remove nat_cmp_total (without_range m a n) at q ∙ ap (λ o. cond (is_eq o) None (map.get (without_range m a n) q)) is ∙ (let g = get-without m a n q in let h = get-without m a k q in grind (arith, nat_tests))
-    go q Greater is =
-        map.get-remove nat_cmp_total (without_range m a n) at q ∙ ap (λ o. cond (is_eq o) None (map.get (without_range m a n) q)) is ∙ (let g = get-without m a n q in let h = get-without m a k q in grind (arith, nat_tests))
 
 are_free_first : (t : Bool) (r : Bool) → not t && r ≡ true → t ≡ false
 are_free_first true r h = cc
@@ -85,27 +58,6 @@ free_from_none (b ∷ bs) m a h =
     let first = h a (omega arith) (omega arith) in
     let rest = free_from_none bs m (a + 1) (λ q low high. h q (omega arith) (omega arith)) in
     rw (first, rest) refl
-
--- bytes that were added where there were none, and are away again
-pub added_away : (bs : List ℕ) (m : Memory) (a n : ℕ) → a + length bs ≤ 2 ^ 32 → n ≡ length bs → are_free m a bs ≡ true → without_range (with_bytes m a bs) a n ≡ m
-added_away bs m a n within e free = same_memory _ _ (λ q. go q (nat_lt q a) (nat_lt q (a + n)) refl refl)
-  where
-    go : (q : ℕ) (below inside : Bool) → nat_lt q a ≡ below → nat_lt q (a + n) ≡ inside → map.get (without_range (with_bytes m a bs) a n) q ≡ map.get m q
-    go q true inside is also =
-        let l : q < a = grind (arith, nat_tests) in
-        get-without_below (with_bytes m a bs) a n q l
-        ∙ get-with_bytes_other bs m a q (λ i h same. omega (arith, same))
-    go q false true is also =
-        let l : a ≤ q = grind (arith, nat_tests) in
-        let r : q < a + n = grind (arith, nat_tests) in
-        get-without_in (with_bytes m a bs) a n q l r ∙ sym (free_is_none bs m a q free l (omega arith))
-    go q false false is also =
-        let r : a + n ≤ q = grind (arith, nat_tests) in
-        get-without_above (with_bytes m a bs) a n q r
-        ∙ get-with_bytes_other bs m a q (λ i h same. omega (arith, same))
-
-pub free_drop : (bs : List ℕ) (m : Memory) (a i : ℕ) → i ≤ length bs → are_free m a bs ≡ true → are_free m (a + i) (drop i bs) ≡ true
-free_drop bs m a i h free = free_from_none (drop i bs) m (a + i) (λ q low high. free_is_none bs m a q free (omega arith) (omega (arith, length-drop i bs)))
 
 -- where an address is taken, the range is not free
 pub taken_not_free : (bs : List ℕ) (m : Memory) (a at : ℕ) → IsFirstTaken m a (length bs) at → are_free m a bs ≡ false

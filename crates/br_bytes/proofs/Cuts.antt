@@ -1,9 +1,9 @@
 -- Lemmas on the ranges on both sides of a cut, and on a byte that is another.
-use Rattle.std.proofs.Common.{◌≡◌, ◌≢◌, ℕ, ◌+◌, ◌-◌, ◌<◌, ◌≤◌, Bool, true, false, nat_le, nat_lt, List, [], ◌∷◌, Option, Some, None, IsTrue, is_some, cond, refl, sym, ap, subst, ◌∙◌, arith, slice_set}
+use Rattle.std.proofs.Common.{◌≡◌, ◌≢◌, ℕ, ◌+◌, ◌-◌, ◌<◌, ◌≤◌, Bool, true, false, nat_le, nat_lt, List, [], ◌∷◌, Option, Some, None, IsTrue, is_some, cond, refl, sym, ap, subst, ◌∙◌, arith}
 use Rattle.std.proofs.lemmas.Bool.Decides.{nat_tests}
 use Rattle.std.proofs.lemmas.List.{length-set}
 use Rattle.br_bytes.specs.Range.{Range, end_of, or_else, byte_in, byte_of, AreApart}
-use Rattle.br_bytes.specs.Changes.{after, range_to, range_from, ranges_to, ranges_from, with_byte}
+use Rattle.br_bytes.specs.Changes.{after, range_to, range_from, ranges_to, ranges_from, set_in, with_byte}
 use Rattle.br_bytes.proofs.Ranged.{below_range, within_range, above_range, none_below}
 use Rattle.br_bytes.proofs.Effects.{by_place, to_range_seen, end_to, from_range_seen, end_from, get_set_same, get_set_other}
 
@@ -124,9 +124,6 @@ there_start r rs a apart up there = go (nat_le r.start a) refl
     go false e =
         let l : a < r.start = grind (arith, nat_tests) in
         absurd (not_none (byte_of (r ∷ rs) a) there (ap (λ o. or_else o (byte_of rs a)) (below_range r a l) ∙ none_below rs (end_of r + 1) a apart (omega arith)))
-
-abbrev set_in : Range → ℕ → ℕ → Range
-set_in r a b = record { start = r.start; bytes = slice_set r.bytes (a - r.start) b }
 
 pub with_here : (rs : List Range) (low a b : ℕ) → AreApart low rs → IsTrue (is_some (byte_of rs a)) → byte_of (with_byte a b rs) a ≡ Some b
 with_here [] low a b apart there = cc

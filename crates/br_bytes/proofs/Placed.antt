@@ -1,13 +1,13 @@
 -- Lemmas that put changes at an index together.
-use Rattle.std.proofs.Common.{◌≡◌, ◌≢◌, ℕ, suc, ◌+◌, ◌<◌, ◌≤◌, List, [], ◌∷◌, ◌++◌, length, take, drop, sym, ap, subst, ◌∙◌, arith, append_assoc, get_or, slice_set}
-use Rattle.std.proofs.lemmas.List.{take_more, drop_more, set_split, take_all, drop_all, take_more_set, drop-set-lt, get_or_at, set_at, length-take-le, append-nil}
+use Rattle.std.proofs.Common.{◌≡◌, ◌≢◌, ℕ, suc, ◌+◌, ◌<◌, ◌≤◌, List, [], ◌∷◌, ◌++◌, length, take, drop, sym, ap, ◌∙◌, arith, append_assoc, get_or, slice_set}
+use Rattle.std.proofs.lemmas.List.{take_more, drop_more, set_split, take_all, drop_all, get_or_at, set_at, length-take-le, append-nil}
 use Rattle.std.specs.Result.{OnOk}
 use Rattle.std.specs.declared.result.Result.{Result}
 use Rattle.std.specs.declared.result.Result.TheVariants.{Ok, Err}
 use Rattle.br_bytes.specs.Range.{Range, end_of, AreApart}
 use Rattle.br_bytes.specs.Changes.{after, joined, before, added, range_to, range_from, ranges_to, ranges_from}
 use Rattle.br_bytes.proofs.Ranged.{before_apart}
-use Rattle.br_bytes.proofs.Changed.{to_skips, from_skips, to_cut, to_none, from_later, from_cut, added_skips, added_after, added_before}
+use Rattle.br_bytes.proofs.Changed.{to_skips, from_skips, to_cut, from_cut, added_skips, added_after, added_before}
 
 pub on_ok : {T E P Q : Type 0} (r : Result T E) → OnOk r P → (P → Q) → OnOk r Q
 on_ok (Ok x) p f = f p
@@ -50,26 +50,6 @@ split_at rs L i a e x y t d h is at cut rest =
     ∙ set_at (take i rs) r (t ∷ drop (i + 1) rs) y i len
     ∙ ap (λ z. take i rs ++ z ∷ t ∷ drop (i + 1) rs) (cut ∙ ap (range_to a) same)
     ∙ ap (λ z. take i rs ++ range_to a r ∷ z ∷ drop (i + 1) rs) rest
-
--- what is gone between two addresses, from the i-th range on
-pub between_cut : (rs L : List Range) (i a e : ℕ) (x y : Range) → i < length rs → x ≡ get_or rs i x → y ≡ range_to a x → x.start < a → a < end_of x → end_of x ≤ e → L ≡ take (i + 1) (slice_set rs i y) ++ ranges_from e (drop (i + 1) (slice_set rs i y)) → L ≡ take i rs ++ (ranges_to a (drop i rs) ++ ranges_from e (drop i rs))
-between_cut rs L i a e x y h at cut low high up is =
-    let r = get_or rs i x in
-    let D = drop (i + 1) rs in
-    let to : ranges_to a (drop i rs) ≡ y ∷ [] = ap (ranges_to a) (drop_more rs i x h) ∙ to_cut r D a (subst (λ z. z.start < a) at low) (subst (λ z. a < end_of z) at high) ∙ ap (λ z. range_to a z ∷ []) (sym at) ∙ ap (λ z. z ∷ []) (sym cut) in
-    let from_ : ranges_from e (drop i rs) ≡ ranges_from e D = ap (ranges_from e) (drop_more rs i x h) ∙ from_later r D e (subst (λ z. end_of z ≤ e) at up) in
-    is
-    ∙ ap (λ zs. zs ++ ranges_from e (drop (i + 1) (slice_set rs i y))) (take_more_set rs i y h)
-    ∙ ap (λ zs. (take i rs ++ y ∷ []) ++ ranges_from e zs) (drop-set-lt (i + 1) rs i y (omega arith))
-    ∙ append_assoc (take i rs) (y ∷ []) (ranges_from e D)
-    ∙ ap (λ zs. take i rs ++ (zs ++ ranges_from e D)) (sym to)
-    ∙ ap (λ zs. take i rs ++ (ranges_to a (drop i rs) ++ zs)) (sym from_)
-
-pub between_kept : (rs L : List Range) (i a e : ℕ) (x : Range) → i < length rs → x ≡ get_or rs i x → a ≤ x.start → a < end_of x → L ≡ take i rs ++ ranges_from e (drop i rs) → L ≡ take i rs ++ (ranges_to a (drop i rs) ++ ranges_from e (drop i rs))
-between_kept rs L i a e x h at low high is =
-    let r = get_or rs i x in
-    let to : ranges_to a (drop i rs) ≡ [] = ap (ranges_to a) (drop_more rs i x h) ∙ to_none r (drop (i + 1) rs) a (subst (λ z. a ≤ z.start) at low) (subst (λ z. a < end_of z) at high) in
-    is ∙ ap (λ zs. take i rs ++ (zs ++ ranges_from e (drop i rs))) (sym to)
 
 -- what is gone between two addresses, at the index that the search gives
 pub clear_between : (rs L : List Range) (i a e : ℕ) → AreApart 0 rs → after 0 (take i rs) ≤ a + 1 → a ≤ e → L ≡ take i rs ++ (ranges_to a (drop i rs) ++ ranges_from e (drop i rs)) → L ≡ ranges_to a rs ++ ranges_from e rs

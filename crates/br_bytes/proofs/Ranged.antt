@@ -46,10 +46,6 @@ pub apart_later : (rs : List Range) (low high : ℕ) → low ≤ high → AreApa
 apart_later [] low high h a = tt
 apart_later (r ∷ rs) low high h a = (omega (arith, a.0), a.1, a.2, a.3)
 
-pub apart_front : (rs ss : List Range) (low : ℕ) → AreApart low (rs ++ ss) → AreApart low rs
-apart_front [] ss low a = tt
-apart_front (r ∷ rs) ss low a = (a.0, a.1, a.2, apart_front rs ss (end_of r + 1) a.3)
-
 pub apart_back : (rs ss : List Range) (low : ℕ) → AreApart low (rs ++ ss) → AreApart (after low rs) ss
 apart_back [] ss low a = a
 apart_back (r ∷ rs) ss low a = apart_back rs ss (end_of r + 1) a.3
@@ -94,9 +90,6 @@ apart_end rs low i d a h = (apart_suc rs low i d a h).2
 -- what is after the first of ranges, one more each time
 pub after_more : (rs : List Range) (low i : ℕ) (d : Range) → i < length rs → after low (take (i + 1) rs) ≡ end_of (get_or rs i d) + 1
 after_more rs low i d h = ap (after low) (take_more rs i d h) ∙ after_last (take i rs) (get_or rs i d) low
-
-pub ends_from : (rs : List Range) (at i : ℕ) (d : Range) → i < length rs → at ≤ end_of (get_or rs i d) → EndsFrom at (drop i rs)
-ends_from rs at i d h e = subst (EndsFrom at) (sym (drop_more rs i d h)) e
 
 pub ends_at : (rs : List Range) (at i : ℕ) (d : Range) → i < length rs → EndsFrom at (drop i rs) → at ≤ end_of (get_or rs i d)
 ends_at rs at i d h e = subst (EndsFrom at) (drop_more rs i d h) e

@@ -12,9 +12,13 @@ abbrev pub EndsFrom : ℕ → List Range → Type 0
 EndsFrom at [] = Unit {0}
 EndsFrom at (r ∷ rs) = at ≤ end_of r
 
+-- a range with bytes after its own
+abbrev pub lengthened : Range → List ℕ → Range
+lengthened r bs = record { start = r.start; bytes = r.bytes ++ bs }
+
 -- two ranges that touch as one
 abbrev pub joined : Range → Range → Range
-joined r s = record { start = r.start; bytes = r.bytes ++ s.bytes }
+joined r s = lengthened r s.bytes
 
 -- a range before others, as one with the first of them where they touch
 abbrev pub before : Range → List Range → List Range
@@ -48,9 +52,13 @@ ranges_from a (r ∷ rs) =
     if nat_le (end_of r) a then ranges_from a rs
     else (if nat_lt r.start a then range_from a r ∷ rs else r ∷ rs)
 
--- the byte at an address is another
+-- a range with another byte at an address
+abbrev pub set_in : Range → ℕ → ℕ → Range
+set_in r a b = record { start = r.start; bytes = slice_set r.bytes (a - r.start) b }
+
+-- ranges with another byte at an address
 abbrev pub with_byte : ℕ → ℕ → List Range → List Range
 with_byte a b [] = []
 with_byte a b (r ∷ rs) =
     if nat_le (end_of r) a then r ∷ with_byte a b rs
-    else record { start = r.start; bytes = slice_set r.bytes (a - r.start) b } ∷ rs
+    else set_in r a b ∷ rs

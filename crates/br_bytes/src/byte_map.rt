@@ -44,7 +44,10 @@ impl Model for ByteMap {
 
     ghost view = { λ m. memory_of m.ranges.items };
 
-    ghost invariant = { λ m. record { apart : AreApart 0 m.ranges.items; is_memory : IsMemory (memory_of m.ranges.items) } };
+    ghost invariant = { λ m. record {
+      apart : AreApart 0 m.ranges.items;
+      is_memory : IsMemory (memory_of m.ranges.items);
+    } };
 }
 
 impl ByteMap {

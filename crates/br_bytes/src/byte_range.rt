@@ -1,7 +1,8 @@
 // Bytes at consecutive addresses, as a memory keeps them.
 
-ghost use Rattle.std.specs.Prelude.{◌≡◌, ◌+◌, ◌-◌, ◌^◌, ◌<◌, ◌≤◌, ◌++◌, length, take, drop, slice_set, OnOk, OnErr};
+ghost use Rattle.std.specs.Prelude.{◌≡◌, ◌^◌, ◌<◌, ◌≤◌, OnOk, OnErr};
 ghost use Rattle.br_bytes.specs.Range.{end_of, byte_in};
+ghost use Rattle.br_bytes.specs.Changes.{lengthened, range_to, range_from, set_in};
 
 use br_base::NoMemory;
 use std::marker::Model;
@@ -64,7 +65,7 @@ impl ByteRange {
     pub(crate) fn put(&mut self, a: u32, b: u8)
         requires above { self.old.start ≤ a }
         requires below { a < end_of self.old }
-        ensures { self.new ≡ record { start = self.old.start; bytes = slice_set self.old.bytes (a - self.old.start) b } }
+        ensures { self.new ≡ set_in self.old a b }
     {
         let i = (a - self.start) as usize;
         self.bytes[i] = b;
@@ -72,7 +73,7 @@ impl ByteRange {
 
     // Adds bytes after the last.
     pub(crate) fn lengthen(&mut self, bytes: &[u8]) -> Result<(), NoMemory>
-        ensures ok { OnOk result (self.new ≡ record { start = self.old.start; bytes = self.old.bytes ++ bytes.now }) }
+        ensures ok { OnOk result (self.new ≡ lengthened self.old bytes.now) }
         ensures err { OnErr result (self.new ≡ self.old) }
     {
         self.bytes.extend_from_slice(bytes)?;
@@ -82,7 +83,7 @@ impl ByteRange {
     // Keeps what stands below an address.
     pub(crate) fn end_at(&mut self, a: u32)
         requires { self.old.start ≤ a }
-        ensures { self.new ≡ record { start = self.old.start; bytes = take (a - self.old.start) self.old.bytes } }
+        ensures { self.new ≡ range_to a self.old }
     {
         let n = (a - self.start) as usize;
         self.bytes.truncate(n);
@@ -92,7 +93,7 @@ impl ByteRange {
     pub(crate) fn start_at(&mut self, a: u32)
         requires above { self.old.start ≤ a }
         requires below { a ≤ end_of self.old }
-        ensures { self.new ≡ record { start = a; bytes = drop (a - self.old.start) self.old.bytes } }
+        ensures { self.new ≡ range_from a self.old }
     {
         let n = (a - self.start) as usize;
         drop(self.bytes.drain(0..n));

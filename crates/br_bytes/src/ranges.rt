@@ -1,9 +1,9 @@
 // Ranges by rising address, as a memory keeps them.
 
-ghost use Rattle.std.specs.Prelude.{◌≡◌, ℕ, ◌+◌, ◌-◌, ◌^◌, ◌<◌, ◌≤◌, List, ◌∷◌, ◌++◌, length, take, drop, slice_index_or, None, IfSome, is_some, IsTrue, IfOk, OnOk, OnErr};
+ghost use Rattle.std.specs.Prelude.{◌≡◌, ℕ, ◌+◌, ◌-◌, ◌^◌, ◌<◌, ◌≤◌, ◌∷◌, ◌++◌, length, take, drop, slice_index_or, None, IfSome, is_some, IsTrue, IfOk, OnOk, OnErr};
 ghost use Rattle.std.specs.Bool.{OnTrue, OnFalse};
 ghost use Rattle.br_bytes.specs.Range.{Range, end_of, byte_of, AreApart};
-ghost use Rattle.br_bytes.specs.Changes.{after, EndsFrom, joined, before, added, range_to, range_from, ranges_to, ranges_from, with_byte};
+ghost use Rattle.br_bytes.specs.Changes.{after, EndsFrom, lengthened, before, added, range_to, range_from, ranges_to, ranges_from, with_byte};
 
 use crate::byte_range::ByteRange;
 use br_base::NoMemory;
@@ -47,8 +47,10 @@ pub(crate) fn first_within(ranges: &[ByteRange], a: u32, n: usize) -> Option<u32
     requires within { a + n ≤ 2 ^ 32 }
     ensures inside { IfSome result (λ at. (a ≤ at) × (at < a + n)) }
     ensures there { IfSome result (λ at. IsTrue (is_some (byte_of ranges.now at))) }
-    ensures first { IfSome result (λ at. (q : ℕ) → a ≤ q → q < at → byte_of ranges.now q ≡ None) }
-    ensures none { result ≡ None → (q : ℕ) → a ≤ q → q < a + n → byte_of ranges.now q ≡ None }
+    ensures first { IfSome result (λ at.
+        (q : ℕ) → a ≤ q → q < at → byte_of ranges.now q ≡ None) }
+    ensures none { result ≡ None →
+        (q : ℕ) → a ≤ q → q < a + n → byte_of ranges.now q ≡ None }
 {
     let i = first_ending(ranges, u64::from(a) + 1);
     if n == 0 || i == ranges.len() {
@@ -68,8 +70,10 @@ pub(crate) fn first_within(ranges: &[ByteRange], a: u32, n: usize) -> Option<u32
 pub(crate) fn covers(ranges: &[ByteRange], a: u32, n: u32) -> bool
     requires apart { AreApart 0 ranges.now }
     requires some { 0 < n }
-    ensures whole { OnTrue result ((q : ℕ) → a ≤ q → q < a + n → IsTrue (is_some (byte_of ranges.now q))) }
-    ensures part { OnFalse result ((q : ℕ) × (a ≤ q) × (q < a + n) × (byte_of ranges.now q ≡ None)) }
+    ensures whole { OnTrue result (
+        (q : ℕ) → a ≤ q → q < a + n → IsTrue (is_some (byte_of ranges.now q))) }
+    ensures part { OnFalse result (
+        (q : ℕ) × (a ≤ q) × (q < a + n) × (byte_of ranges.now q ≡ None)) }
 {
     let i = first_ending(ranges, u64::from(a) + 1);
     if i == ranges.len() || a < ranges[i].start() {
@@ -101,7 +105,8 @@ fn concatenation(alloc: Global, first: &[u8], second: &[u8]) -> Result<Vec<u8>, 
 fn put_before(ranges: &mut Vec<ByteRange>, i: usize, a: u32, bytes: &[u8]) -> Result<(), NoMemory>
     requires within { a + length bytes.now ≤ 2 ^ 32 }
     requires there { i ≤ length ranges.old.items }
-    ensures ok { OnOk result (ranges.new.items ≡ take i ranges.old.items ++ before (record { start = a; bytes = bytes.now }) (drop i ranges.old.items)) }
+    ensures ok { OnOk result (ranges.new.items ≡ take i ranges.old.items
+        ++ before (record { start = a; bytes = bytes.now }) (drop i ranges.old.items)) }
     ensures err { OnErr result (ranges.new.items ≡ ranges.old.items) }
 {
     let alloc = *ranges.allocator();
@@ -119,8 +124,10 @@ fn put_before(ranges: &mut Vec<ByteRange>, i: usize, a: u32, bytes: &[u8]) -> Re
 // Adds bytes after those of the i-th range, and makes it one with the next where they then touch.
 fn put_after(ranges: &mut Vec<ByteRange>, i: usize, bytes: &[u8]) -> Result<(), NoMemory>
     requires there { i < length ranges.old.items }
-    requires within { (d : Range) → end_of (slice_index_or ranges.old.items i d) + length bytes.now ≤ 2 ^ 32 }
-    ensures ok { OnOk result ((d : Range) → ranges.new.items ≡ take i ranges.old.items ++ before (record { start = (slice_index_or ranges.old.items i d).start; bytes = (slice_index_or ranges.old.items i d).bytes ++ bytes.now }) (drop (i + 1) ranges.old.items)) }
+    requires within { (d : Range) →
+        end_of (slice_index_or ranges.old.items i d) + length bytes.now ≤ 2 ^ 32 }
+    ensures ok { OnOk result ((d : Range) → ranges.new.items ≡ take i ranges.old.items
+        ++ before (lengthened (slice_index_or ranges.old.items i d) bytes.now) (drop (i + 1) ranges.old.items)) }
     ensures err { OnErr result (ranges.new.items ≡ ranges.old.items) }
 {
     let alloc = *ranges.allocator();
@@ -139,7 +146,8 @@ fn put_after(ranges: &mut Vec<ByteRange>, i: usize, bytes: &[u8]) -> Result<(), 
 pub(crate) fn add(ranges: &mut Vec<ByteRange>, a: u32, bytes: &[u8]) -> Result<(), NoMemory>
     requires apart { AreApart 0 ranges.old.items }
     requires within { a + length bytes.now ≤ 2 ^ 32 }
-    ensures ok { OnOk result (ranges.new.items ≡ added (record { start = a; bytes = bytes.now }) ranges.old.items) }
+    ensures ok { OnOk result (
+        ranges.new.items ≡ added (record { start = a; bytes = bytes.now }) ranges.old.items) }
     ensures err { OnErr result (ranges.new.items ≡ ranges.old.items) }
 {
     let i = first_ending(ranges.as_slice(), u64::from(a));
@@ -156,7 +164,9 @@ fn split(ranges: &mut Vec<ByteRange>, i: usize, a: u32, end: u32) -> Result<(), 
     requires above { (d : Range) → (slice_index_or ranges.old.items i d).start ≤ a }
     requires ordered { a ≤ end }
     requires below { (d : Range) → end ≤ end_of (slice_index_or ranges.old.items i d) }
-    ensures ok { OnOk result ((d : Range) → ranges.new.items ≡ take i ranges.old.items ++ range_to a (slice_index_or ranges.old.items i d) ∷ range_from end (slice_index_or ranges.old.items i d) ∷ drop (i + 1) ranges.old.items) }
+    ensures ok { OnOk result ((d : Range) → ranges.new.items ≡ take i ranges.old.items
+        ++ range_to a (slice_index_or ranges.old.items i d)
+        ∷ range_from end (slice_index_or ranges.old.items i d) ∷ drop (i + 1) ranges.old.items) }
     ensures err { OnErr result (ranges.new.items ≡ ranges.old.items) }
 {
     let alloc = *ranges.allocator();
@@ -180,7 +190,8 @@ fn drop_below(ranges: &mut Vec<ByteRange>, i: usize, end: u64)
     requires apart { AreApart 0 ranges.old.items }
     requires there { i ≤ length ranges.old.items }
     requires within { end ≤ 2 ^ 32 }
-    ensures { ranges.new.items ≡ take i ranges.old.items ++ ranges_from end (drop i ranges.old.items) }
+    ensures { ranges.new.items ≡ take i ranges.old.items
+        ++ ranges_from end (drop i ranges.old.items) }
 {
     let n = first_ending(&ranges.as_slice()[i..], end + 1);
     drop_some(ranges, i, n);
@@ -196,8 +207,10 @@ fn drop_between(ranges: &mut Vec<ByteRange>, i: usize, a: u32, end: u64)
     requires there { i < length ranges.old.items }
     requires within { end ≤ 2 ^ 32 }
     requires first { (d : Range) → a < end_of (slice_index_or ranges.old.items i d) }
-    requires whole { (d : Range) → (slice_index_or ranges.old.items i d).start < a → end_of (slice_index_or ranges.old.items i d) ≤ end }
-    ensures { ranges.new.items ≡ take i ranges.old.items ++ (ranges_to a (drop i ranges.old.items) ++ ranges_from end (drop i ranges.old.items)) }
+    requires whole { (d : Range) → (slice_index_or ranges.old.items i d).start < a →
+        end_of (slice_index_or ranges.old.items i d) ≤ end }
+    ensures { ranges.new.items ≡ take i ranges.old.items
+        ++ (ranges_to a (drop i ranges.old.items) ++ ranges_from end (drop i ranges.old.items)) }
 {
     if ranges[i].start() < a {
         ranges[i].end_at(a);
@@ -212,7 +225,8 @@ pub(crate) fn clear(ranges: &mut Vec<ByteRange>, a: u32, end: u64) -> Result<(),
     requires apart { AreApart 0 ranges.old.items }
     requires ordered { a < end }
     requires within { end ≤ 2 ^ 32 }
-    ensures ok { OnOk result (ranges.new.items ≡ ranges_to a ranges.old.items ++ ranges_from end ranges.old.items) }
+    ensures ok { OnOk result (
+        ranges.new.items ≡ ranges_to a ranges.old.items ++ ranges_from end ranges.old.items) }
     ensures err { OnErr result (ranges.new.items ≡ ranges.old.items) }
 {
     let i = first_ending(ranges.as_slice(), u64::from(a) + 1);
