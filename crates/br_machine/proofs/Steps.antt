@@ -140,7 +140,7 @@ keeps_stored a v o s none =
           | inr h ↦ inr h
         ])
 
-keeps_effect : (i : Ins) (s : MachineState) (next : Option ℕ) → trap_of i s ≡ None → Keeps s (effect i s next)
+pub keeps_effect : (i : Ins) (s : MachineState) (next : Option ℕ) → trap_of i s ≡ None → Keeps s (effect i s next)
 keeps_effect (Upper Lui rd field) s next fine = keeps_computed rd _ s Ran refl
 keeps_effect (Upper Auipc rd field) s next fine = keeps_computed rd _ s Ran refl
 keeps_effect (Jal rd imm) s next fine = keeps_jumped rd _ s

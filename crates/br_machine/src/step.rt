@@ -4,7 +4,7 @@ ghost use Rattle.std.specs.Prelude.{◌≡◌, ℕ, ◌+◌, ◌<◌, ◌≤◌,
 ghost use Rattle.br_machine.specs.Pages.{is_made, page_count, step_stores_in};
 ghost use Rattle.br_machine.specs.Step.{is_in_code, fetched, step};
 
-use crate::laws::steps_that_end_change_nothing;
+use crate::laws::{steps_keep_the_code, steps_that_end_change_nothing};
 use crate::machine::Machine;
 use crate::stepped::{Stepped, Trap};
 use br_rv32im::decode;
@@ -41,6 +41,7 @@ impl Machine {
     pub fn step(&mut self, next_answer: Option<u32>) -> Stepped
         ensures machine { self.new.state ≡ (step self.old.state next_answer).0 }
         ensures end { result ≡ (step self.old.state next_answer).1 }
+        ensures layout { self.new.state.layout ≡ self.old.state.layout }
         ensures made { (page : ℕ) → page < page_count self.old.state.layout →
             is_made self.new page ≡ (step_stores_in self.old.state page || is_made self.old page) }
 
@@ -49,7 +50,8 @@ impl Machine {
         ensures trapped { (trap : Trap) (pc : ℕ) →
             result ≡ Stepped.Trapped trap pc → self.new.state ≡ self.old.state }
     {
-        // The last three clauses are this law.
+        // The clause on the layout, and the last three, are these laws.
+        steps_keep_the_code();
         steps_that_end_change_nothing();
         if !self.is_in_code() {
             return self.trapped(Trap::FetchOutside);
