@@ -1,6 +1,6 @@
 // Words of code by the manual, how machines begin, and how runs of them end.
 
-ghost use Rattle.std.specs.Prelude.{◌≡◌, ℕ, ◌+◌, ◌≤◌, length, IfOk};
+ghost use Rattle.std.specs.Prelude.{◌≡◌, ℕ, ◌+◌, ◌<◌, ◌≤◌, length, IfOk};
 ghost use Rattle.br_words.specs.Layout.{data_base, stack_base};
 ghost use Rattle.br_machine.specs.Start.{IsInData};
 ghost use Rattle.br_machine.specs.Pages.{page_count};
