@@ -7,7 +7,7 @@ use Rattle.br_syntax.specs.declared.program.Cmd.TheVariants.{While}
 use Rattle.br_syntax.specs.declared.program.Func.{Func}
 use Rattle.br_syntax.specs.Functions.{function_named}
 use Rattle.br_source_meaning.specs.Values.{Name, value}
-use Rattle.br_source_meaning.specs.Runs.{State, End, Run, Goes, Ends, then_do, with_defined, choose, with_fuel, with_locals, back_in, run, run_all}
+use Rattle.br_source_meaning.specs.Runs.{Callee, State, End, Run, Goes, Ends, then_do, with_defined, choose, with_fuel, with_locals, back_in, run, run_all}
 use Rattle.br_source_meaning.specs.Calls.{enter, function_of, run_function}
 use Rattle.br_bytes.specs.Left.{OnlyTakes}
 use Rattle.br_bytes.proofs.Widens.{AlikeCalls, fuel-goes}
@@ -21,7 +21,7 @@ pub deep-takes : (fs : List Func) → OnlyTakes (deep_calls fs)
 unfolding deep_calls
 deep-takes fs = leaves-function_of fs (2 ^ 32)
 
-deep-enters : (fs : List Func) (f : Name) (args : List ℕ) (s : State) → s.fuel < 2 ^ 32 → deep_calls fs f args s ≡ enter (deep_calls fs) (function_named fs f) args s
+pub deep-enters : (fs : List Func) (f : Name) (args : List ℕ) (s : State) → s.fuel < 2 ^ 32 → deep_calls fs f args s ≡ enter (deep_calls fs) (function_named fs f) args s
 unfolding deep_calls
 deep-enters fs f args s h = unfold-function_of fs (2 ^ 32) f args s h
 
@@ -43,34 +43,23 @@ less-spend (suc k) s t e = let same : record s { fuel = k } ≡ t = cc in omega 
 pub less-spent : (s t : State) → with_fuel s Goes ≡ Goes t → t.fuel < s.fuel
 less-spent s t e = less-spend s.fuel s t e
 
--- a loop whose test is 0, or has no word
-pub turns-end : (fs : List Func) (e : Expr) (body : List Cmd) (s : State) (v : ℕ) → value s.locals s.memory e ≡ Some v → v ≡ 0 → run (deep_calls fs) (While e body) s ≡ Goes s
-turns-end fs e body s v is none =
-    let again : State → Run = λ t. then_do (run_all (deep_calls fs) body t) (run (deep_calls fs) (While e body)) in
-    unfold-while (deep_calls fs) (deep-takes fs) e body s
+-- a loop whose test is 0
+pub turns-end : (call : Callee) → OnlyTakes call → (e : Expr) (body : List Cmd) (s : State) (v : ℕ) → value s.locals s.memory e ≡ Some v → v ≡ 0 → run call (While e body) s ≡ Goes s
+turns-end call h e body s v is none =
+    let again : State → Run = λ t. then_do (run_all call body t) (run call (While e body)) in
+    unfold-while call h e body s
     ∙ ap (λ o. with_defined o s (λ v. choose (v == 0) (Goes s) (with_fuel s again))) (is ∙ ap Some none)
 
 is_not_zero : (v : ℕ) → v ≢ 0 → (v == 0) ≡ false
 is_not_zero v h = grind (arith, nat_tests)
 
 -- a loop whose test is not 0 takes a unit of fuel
-pub turns-spend : (fs : List Func) (e : Expr) (body : List Cmd) (s : State) (v : ℕ) → value s.locals s.memory e ≡ Some v → v ≢ 0 → run (deep_calls fs) (While e body) s ≡ with_fuel s (λ t. then_do (run_all (deep_calls fs) body t) (run (deep_calls fs) (While e body)))
-turns-spend fs e body s v is some =
-    let again : State → Run = λ t. then_do (run_all (deep_calls fs) body t) (run (deep_calls fs) (While e body)) in
-    unfold-while (deep_calls fs) (deep-takes fs) e body s
+pub turns-spend : (call : Callee) → OnlyTakes call → (e : Expr) (body : List Cmd) (s : State) (v : ℕ) → value s.locals s.memory e ≡ Some v → v ≢ 0 → run call (While e body) s ≡ with_fuel s (λ t. then_do (run_all call body t) (run call (While e body)))
+turns-spend call h e body s v is some =
+    let again : State → Run = λ t. then_do (run_all call body t) (run call (While e body)) in
+    unfold-while call h e body s
     ∙ ap (λ o. with_defined o s (λ v. choose (v == 0) (Goes s) (with_fuel s again))) is
     ∙ ap (λ b. choose b (Goes s) (with_fuel s again)) (is_not_zero v some)
-
--- a turn, and the loop again
-pub turns-go : (fs : List Func) (e : Expr) (body : List Cmd) (s t u : State) (v : ℕ) → value s.locals s.memory e ≡ Some v → v ≢ 0 → with_fuel s Goes ≡ Goes t → run_all (deep_calls fs) body t ≡ Goes u → run (deep_calls fs) (While e body) s ≡ run (deep_calls fs) (While e body) u
-turns-go fs e body s t u v is some spent went =
-    turns-spend fs e body s v is some
-    ∙ spent-then s t (λ t. then_do (run_all (deep_calls fs) body t) (run (deep_calls fs) (While e body))) spent
-    ∙ ap (λ r. then_do r (run (deep_calls fs) (While e body))) went
-
-pub turns-less : (fs : List Func) (body : List Cmd) (s t u : State) → with_fuel s Goes ≡ Goes t → run_all (deep_calls fs) body t ≡ Goes u → u.fuel < s.fuel
-turns-less fs body s t u spent went =
-    omega (arith, less-spent s t spent, fuel-goes t (run_all (deep_calls fs) body t) u (leaves-run_all (deep_calls fs) (deep-takes fs) body t) went)
 
 -- a call enters the function that it names
 pub call-enters : (fs : List Func) (xs : List Name) (f : Name) (o : Option (List ℕ)) (vs : List ℕ) (s t : State) → o ≡ Some vs → with_fuel s Goes ≡ Goes t → t.fuel < 2 ^ 32 → with_defined o s (λ vs. with_fuel s (λ t. back_in (with_locals xs) s.locals (deep_calls fs f vs t))) ≡ back_in (with_locals xs) s.locals (enter (deep_calls fs) (function_named fs f) vs t)

@@ -4,3 +4,4 @@ pub mod Given
 pub mod Bounds
 pub mod Kept
 pub mod Deep
+pub mod Frames

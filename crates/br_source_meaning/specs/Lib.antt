@@ -3,4 +3,5 @@ pub mod Runs
 pub mod Calls
 pub mod Variables
 pub mod Running
+pub mod Pending
 pub mod Finished

@@ -9,6 +9,7 @@ use Rattle.br_syntax.specs.declared.program.Func.{Func}
 use Rattle.br_source_meaning.specs.Runs.{State, End, Waiting, OutOfFuel, Undefined, NoChoice, Run, Goes, Ends, then_do, Callee, Returned, Returns, Stops}
 use Rattle.br_source_meaning.specs.Calls.{function_of}
 use Rattle.br_source_meaning.specs.Variables.{locals_of}
+use Rattle.br_source_meaning.specs.declared.held.Held.{Held}
 use Rattle.br_source_meaning.specs.declared.running.Stop.{Stop}
 use Rattle.br_source_meaning.specs.declared.running.Stop.TheVariants as stop
 use Rattle.br_source_meaning.specs.declared.running.Running.{Running}
@@ -46,11 +47,15 @@ LeadsBack (Ok vs) r back = back ≡ Returns vs (state_of r)
 LeadsBack (Err (Fault e)) r back = back ≡ Stops (end_of e) (state_of r)
 LeadsBack (Err Memory) r back = ⊤
 
--- the same of a buffer of n bytes that was taken for a body, at an address
-abbrev pub Enters : Result ℕ (OrMemory Stop) → Running → ℕ → (State → Run) → Run → Type 0
-Enters (Ok a) r n body run = run ≡ then_do (body (state_of r)) (λ t. Goes (record t { memory = without_range t.memory a n }))
-Enters (Err (Fault e)) r n body run = run ≡ Ends (end_of e) (state_of r)
-Enters (Err Memory) r n body run = ⊤
+-- the addresses of a buffer leave memory
+abbrev pub leaves : Held → State → Run
+leaves h s = Goes (record s { memory = without_range s.memory h.addr h.size })
+
+-- the same of a buffer that was taken for a body
+abbrev pub Enters : Result Held (OrMemory Stop) → Running → (State → Run) → Run → Type 0
+Enters (Ok h) r body run = run ≡ then_do (body (state_of r)) (leaves h)
+Enters (Err (Fault e)) r body run = run ≡ Ends (end_of e) (state_of r)
+Enters (Err Memory) r body run = ⊤
 
 -- a choice that can be taken for a buffer of n bytes where its addresses are free
 abbrev pub can_stand : ℕ → Choice → Bool

@@ -1,14 +1,17 @@
-// Commands by recursion over their trees.
+// Commands by work that is pending: neither bodies nor calls are done by recursion.
 
-ghost use Rattle.std.specs.Prelude.{◌≡◌, List};
-ghost use Rattle.br_syntax.specs.declared.program.Cmd.TheVariants.{While};
+ghost use Rattle.std.specs.Prelude.{◌≡◌, ◌+◌, ◌^◌, ◌<◌, IfOk};
 ghost use Rattle.std.specs.Option.{option_copied};
+ghost use Rattle.br_syntax.specs.declared.program.Cmd.TheVariants.{While};
 ghost use Rattle.br_syntax.specs.Functions.{function_named};
-ghost use Rattle.br_source_meaning.specs.Values.{with_local, values};
-ghost use Rattle.br_source_meaning.specs.Runs.{with_defined, with_fuel, with_buffer, with_locals, back_in, run, run_all};
+ghost use Rattle.br_bytes.specs.Left.{OnlyTakes};
+ghost use Rattle.br_source_meaning.specs.Runs.{Callee, Goes, run, run_all};
 ghost use Rattle.br_source_meaning.specs.Calls.{run_function};
 ghost use Rattle.br_source_meaning.specs.Running.{state_of, deep_calls, Leads, LeadsBack};
+ghost use Rattle.br_source_meaning.specs.Pending.{resume, finish, begins, LeavesWork, Resumes, Pauses, Starts, weight, frame_weight, weigh, room};
+ghost use Rattle.br_source_meaning.specs.declared.pending.Turn.TheVariants as turn;
 
+use crate::pending::{Frame, Turn, Work, lay_down};
 use crate::running::{Running, Stop};
 use crate::variables::Variables;
 use br_base::{Name, OrMemory};
@@ -18,66 +21,36 @@ use std::alloc::Global;
 use std::mem;
 
 impl<'a> Running<'a> {
-    /// Runs commands in turn. `room` is how deep commands and calls may still stand in one another:
-    /// the program's own stack is memory too, and where it would grow deeper there is none.
-    #[cycle(commands)]
-    pub(crate) fn commands(
-        &mut self,
-        alloc: Global,
-        funcs: &'a [Func],
-        room: u32,
-        cs: &'a [Cmd],
-    ) -> Result<(), OrMemory<Stop>>
-        ensures { Leads result self.new (run_all (deep_calls funcs.now) cs.now (state_of self.old)) }
+    // A command as far as it goes at once, and what is left of it.
+    fn command(&mut self, alloc: Global, c: &'a Cmd) -> Result<Work<'a>, OrMemory<Stop>>
+        ensures leads { (call : Callee) → OnlyTakes call → LeavesWork result call self.new (run call c.now (state_of self.old)) }
+        ensures light { IfOk result (λ w. room w < weight c.now) }
+        ensures fuel { self.new.fuel ≡ self.old.fuel }
     {
-        for c in cs {
-            self.command(alloc, funcs, room, c)?;
-        }
-        Ok(())
-    }
-
-    #[cycle(commands)]
-    fn command(
-        &mut self,
-        alloc: Global,
-        funcs: &'a [Func],
-        room: u32,
-        c: &'a Cmd,
-    ) -> Result<(), OrMemory<Stop>>
-        ensures { Leads result self.new (run (deep_calls funcs.now) c.now (state_of self.old)) }
-    {
-        if room == 0 {
-            return Err(OrMemory::Memory);
-        }
-        let room = room - 1;
         match c {
-            Cmd::Skip => Ok(()),
-            Cmd::Set(x, e) => self.assign(x, e),
-            Cmd::Unset(x) => {
-                self.variables.unset(x);
-                Ok(())
+            Cmd::Skip => {}
+            Cmd::Set(x, e) => self.assign(x, e)?,
+            Cmd::Unset(x) => self.variables.unset(x),
+            Cmd::Store(size, a, e) => self.store(*size, a, e)?,
+            Cmd::Stackalloc(x, n, body) => {
+                let held = self.take_buffer(x, *n)?;
+                return Ok(Work::Buffer(held, body.as_slice()));
             }
-            Cmd::Store(size, a, e) => self.store(*size, a, e),
-            Cmd::Stackalloc(x, n, body) => self.buffer(alloc, funcs, room, x, *n, body.as_slice()),
             Cmd::If(e, first, second) => {
                 let branch = if self.word(e)? == 0 { second } else { first };
-                self.commands(alloc, funcs, room, branch.as_slice())
+                return Ok(Work::Body(branch.as_slice()));
             }
-            Cmd::While(e, body) => self.turns(alloc, funcs, room, e, body.as_slice()),
-            Cmd::Seq(body) => self.commands(alloc, funcs, room, body.as_slice()),
+            Cmd::While(e, body) => return self.test(e, body.as_slice()),
+            Cmd::Seq(body) => return Ok(Work::Body(body.as_slice())),
             Cmd::Call {
                 results,
                 callee,
                 args,
                 ..
-            } => self.call(
-                alloc,
-                funcs,
-                room,
-                results.as_slice(),
-                callee,
-                args.as_slice(),
-            ),
+            } => {
+                let words = self.words(alloc, args.as_slice())?;
+                return Ok(Work::Turn(Turn::Call(results.as_slice(), callee, words)));
+            }
             Cmd::Interact {
                 results,
                 action,
@@ -85,83 +58,148 @@ impl<'a> Running<'a> {
                 ..
             } => {
                 let words = self.words(alloc, args.as_slice())?;
-                self.act(results.as_slice(), action, words.as_slice())
+                self.act(results.as_slice(), action, words.as_slice())?;
+            }
+        }
+        Ok(Work::Done)
+    }
+
+    // The test of a loop.
+    fn test(&self, e: &'a Expr, body: &'a [Cmd]) -> Result<Work<'a>, OrMemory<Stop>>
+        ensures leads { (call : Callee) → OnlyTakes call → LeavesWork result call self.now (run call (While e.now body.now) (state_of self.now)) }
+        ensures light { IfOk result (λ w. room w < 1) }
+    {
+        if self.word(e)? == 0 {
+            Ok(Work::Done)
+        } else {
+            Ok(Work::Turn(Turn::Loop(e, body)))
+        }
+    }
+
+    // A frame as far as it goes at once, and what is left of it.
+    fn resume(
+        &mut self,
+        alloc: Global,
+        pending: &mut Items<Frame<'a>>,
+        frame: Frame<'a>,
+    ) -> Result<Work<'a>, OrMemory<Stop>>
+        ensures leads { (call : Callee) → OnlyTakes call → Resumes result call self.new pending.new pending.old (resume call frame.entry (state_of self.old)) }
+        ensures light { IfOk result (λ w. weigh pending.new + room w < weigh pending.old + frame_weight frame.entry) }
+        ensures fuel { self.new.fuel ≡ self.old.fuel }
+    {
+        match frame {
+            Frame::Body(cs) => {
+                let Some((c, rest)) = cs.split_first() else {
+                    return Ok(Work::Done);
+                };
+                pending.push(Frame::Body(rest))?;
+                self.command(alloc, c)
+            }
+            Frame::Loop(e, body) => self.test(e, body),
+            Frame::Leave(held) => {
+                self.memory.clear_range(held.addr, held.size)?;
+                Ok(Work::Done)
+            }
+            Frame::Return { from, to, caller } => {
+                let words = self.results(alloc, from)?;
+                self.variables = caller;
+                self.variables.set_all(to, words.as_slice())?;
+                Ok(Work::Done)
             }
         }
     }
 
-    // Runs a body while a buffer is in memory.
-    #[cycle(commands)]
-    fn buffer(
+    // Goes on with what is pending until nothing is, or what takes fuel comes next.
+    fn until_turn(
         &mut self,
         alloc: Global,
-        funcs: &'a [Func],
-        room: u32,
-        x: &'a Name,
-        n: u32,
-        body: &'a [Cmd],
-    ) -> Result<(), OrMemory<Stop>>
-        ensures { Leads result self.new (with_buffer (with_local x.now) n (run_all (deep_calls funcs.now) body.now) (state_of self.old)) }
+        pending: &mut Items<Frame<'a>>,
+    ) -> Result<Option<Turn<'a>>, OrMemory<Stop>>
+        ensures pauses { (call : Callee) → OnlyTakes call → Pauses result call self.new pending.new (finish call pending.old (Goes (state_of self.old))) }
+        ensures fuel { self.new.fuel ≡ self.old.fuel }
     {
-        let a = self.take_buffer(x, n)?;
-        self.commands(alloc, funcs, room, body)?;
-        self.memory.clear_range(a, n)?;
-        Ok(())
-    }
-
-    // Runs a body again and again while a word is not 0.
-    #[cycle(commands)]
-    fn turns(
-        &mut self,
-        alloc: Global,
-        funcs: &'a [Func],
-        room: u32,
-        e: &Expr,
-        body: &'a [Cmd],
-    ) -> Result<(), OrMemory<Stop>>
-        ensures { Leads result self.new (run (deep_calls funcs.now) (While e.now body.now) (state_of self.old)) }
-    {
-        while self.word(e)? != 0 {
-            self.spend()?;
-            self.commands(alloc, funcs, room, body)?;
+        while let Some(frame) = pending.pop() {
+            let work = self.resume(alloc, pending, frame)?;
+            if let Some(turn) = lay_down(pending, work)? {
+                return Ok(Some(turn));
+            }
         }
-        Ok(())
+        Ok(None)
     }
 
-    // Calls a function by its name, with variables of its own.
-    #[cycle(commands)]
-    fn call(
+    // Enters a function by its name, with variables of its own.
+    fn enter(
         &mut self,
         alloc: Global,
         funcs: &'a [Func],
-        room: u32,
-        results: &'a [Name],
-        callee: &Name,
-        args: &[Expr],
+        pending: &mut Items<Frame<'a>>,
+        to: &'a [Name],
+        callee: &'a Name,
+        words: Items<u32>,
     ) -> Result<(), OrMemory<Stop>>
-        ensures { Leads result self.new (
-            with_defined (values (state_of self.old).locals self.old.memory args.now) (state_of self.old) (λ vs.
-            with_fuel (state_of self.old) (λ t. back_in (with_locals results.now) (state_of self.old).locals (deep_calls funcs.now callee.now vs t)))) }
+        requires { self.old.fuel < 2 ^ 32 }
+        ensures starts { Starts result (deep_calls funcs.now) self.new pending.new pending.old (begins (deep_calls funcs.now) (turn.Call to.entry callee.entry words) (state_of self.old)) }
+        ensures fuel { self.new.fuel ≡ self.old.fuel }
     {
-        let words = self.words(alloc, args)?;
-        self.spend()?;
         let Some(f) = function_named(funcs, callee) else {
             return Err(OrMemory::Fault(Stop::Undefined));
         };
         let caller = mem::replace(&mut self.variables, Variables::new(alloc));
-        let words = self.function(alloc, funcs, room, f, words.as_slice())?;
-        self.variables = caller;
-        self.variables.set_all(results, words.as_slice())?;
+        self.variables.set_all(f.args.as_slice(), words.as_slice())?;
+        pending.push(Frame::Return {
+            from: f.results.as_slice(),
+            to,
+            caller,
+        })?;
+        pending.push(Frame::Body(f.body.as_slice()))?;
+        Ok(())
+    }
+
+    // Begins what took fuel.
+    fn begin(
+        &mut self,
+        alloc: Global,
+        funcs: &'a [Func],
+        pending: &mut Items<Frame<'a>>,
+        turn: Turn<'a>,
+    ) -> Result<(), OrMemory<Stop>>
+        requires { self.old.fuel < 2 ^ 32 }
+        ensures starts { Starts result (deep_calls funcs.now) self.new pending.new pending.old (begins (deep_calls funcs.now) turn.entry (state_of self.old)) }
+        ensures fuel { self.new.fuel ≡ self.old.fuel }
+    {
+        match turn {
+            Turn::Loop(e, body) => {
+                pending.push(Frame::Loop(e, body))?;
+                pending.push(Frame::Body(body))?;
+                Ok(())
+            }
+            Turn::Call(to, callee, words) => self.enter(alloc, funcs, pending, to, callee, words),
+        }
+    }
+
+    // Runs commands in turn.
+    fn commands(
+        &mut self,
+        alloc: Global,
+        funcs: &'a [Func],
+        cs: &'a [Cmd],
+    ) -> Result<(), OrMemory<Stop>>
+        ensures { Leads result self.new (run_all (deep_calls funcs.now) cs.now (state_of self.old)) }
+    {
+        let mut pending = Items::new(alloc);
+        pending.push(Frame::Body(cs))?;
+        while let Some(turn) = self.until_turn(alloc, &mut pending)? {
+            self.spend()?;
+            self.begin(alloc, funcs, &mut pending, turn)?;
+        }
         Ok(())
     }
 
     /// Runs a function with its arguments as its only variables, and reads its results.
-    #[cycle(commands)]
     pub(crate) fn function(
         &mut self,
         alloc: Global,
         funcs: &'a [Func],
-        room: u32,
         f: &'a Func,
         args: &[u32],
     ) -> Result<Items<u32>, OrMemory<Stop>>
@@ -169,7 +207,7 @@ impl<'a> Running<'a> {
     {
         self.variables = Variables::new(alloc);
         self.variables.set_all(f.args.as_slice(), args)?;
-        self.commands(alloc, funcs, room, f.body.as_slice())?;
+        self.commands(alloc, funcs, f.body.as_slice())?;
         self.results(alloc, f.results.as_slice())
     }
 }

@@ -12,9 +12,6 @@ use br_syntax::{Func, Program};
 use sqlite_items::Items;
 use std::alloc::Global;
 
-// How deep commands and calls may stand in one another before a run answers that there is no memory.
-const ROOM: u32 = 1024;
-
 /// A call of a function that is to be run: the program and its function, the words of the
 /// arguments, the memory, what device words will be read as in turn, and the buffers that will be
 /// given in turn.
@@ -70,8 +67,8 @@ impl<'a> Interp<'a> {
     }
 
     /// Runs the call from outside, with this fuel: how many turns of loops and calls may begin. The
-    /// run is the one that the language defines. Commands and calls that stand more than 1,024 deep
-    /// in one another are answered by `NoMemory`, as any want of memory is.
+    /// run is the one that the language defines, however deep commands and calls stand in one
+    /// another.
     pub fn run(self, fuel: u32) -> Result<Finished, NoMemory>
         ensures { IfOk result (λ done. called_of done ≡ call self.entry.program.now.funcs self.entry.func.now self.entry.args.now self.entry.memory self.entry.answers.now self.entry.choices.now fuel) }
     {
@@ -85,7 +82,7 @@ impl<'a> Interp<'a> {
             choices: self.choices,
             fuel,
         };
-        let outcome = match running.function(alloc, funcs, ROOM, self.func, self.args) {
+        let outcome = match running.function(alloc, funcs, self.func, self.args) {
             Ok(words) => Outcome::Done(words),
             Err(OrMemory::Fault(stop)) => outcome_at(stop),
             Err(OrMemory::Memory) => return Err(NoMemory),

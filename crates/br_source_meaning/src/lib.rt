@@ -2,8 +2,10 @@
 #![tactic(auto)]
 
 mod commands;
+mod held;
 mod interp;
 mod laws;
+mod pending;
 mod running;
 mod values;
 mod variables;

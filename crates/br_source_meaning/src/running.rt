@@ -1,6 +1,6 @@
 // What commands do to a run.
 
-ghost use Rattle.std.specs.Prelude.{◌≡◌, ℕ, ◌+◌, ◌^◌, ◌<◌, ◌≤◌, List, IfOk};
+ghost use Rattle.std.specs.Prelude.{◌≡◌, ℕ, ◌^◌, ◌<◌, List};
 ghost use Rattle.br_words.specs.Size.{size_of};
 ghost use Rattle.br_bytes.specs.Memory.{put_number};
 ghost use Rattle.br_source_meaning.specs.Values.{with_local, value, values};
@@ -8,6 +8,7 @@ ghost use Rattle.br_source_meaning.specs.Runs.{State, Run, Goes, with_defined, w
 ghost use Rattle.br_source_meaning.specs.Calls.{words_of};
 ghost use Rattle.br_source_meaning.specs.Running.{state_of, Leads, Enters, IsDefined, can_stand};
 
+use crate::held::Held;
 use crate::values::{value, values};
 use crate::variables::Variables;
 use br_base::{Name, OrMemory};
@@ -77,7 +78,8 @@ impl<'a> Running<'a> {
 
     // Sets a variable to the word of an expression.
     pub(crate) fn assign(&mut self, x: &'a Name, e: &Expr) -> Result<(), OrMemory<Stop>>
-        ensures { Leads result self.new (with_defined (value (state_of self.old).locals self.old.memory e.now) (state_of self.old) (λ v. Goes (set_to x.now v (state_of self.old)))) }
+        ensures leads { Leads result self.new (with_defined (value (state_of self.old).locals self.old.memory e.now) (state_of self.old) (λ v. Goes (set_to x.now v (state_of self.old)))) }
+        ensures fuel { self.new.fuel ≡ self.old.fuel }
     {
         let v = self.word(e)?;
         self.variables.set(x, v)?;
@@ -86,10 +88,11 @@ impl<'a> Running<'a> {
 
     // Stores the low bytes of a word.
     pub(crate) fn store(&mut self, size: Size, a: &Expr, e: &Expr) -> Result<(), OrMemory<Stop>>
-        ensures { Leads result self.new (
+        ensures leads { Leads result self.new (
             with_defined (value (state_of self.old).locals self.old.memory a.now) (state_of self.old) (λ a.
             with_defined (value (state_of self.old).locals self.old.memory e.now) (state_of self.old) (λ v.
             with_defined (put_number self.old.memory a (size_of size) v) (state_of self.old) (λ m. Goes (record (state_of self.old) { memory = m }))))) }
+        ensures fuel { self.new.fuel ≡ self.old.fuel }
     {
         let a = self.word(a)?;
         let v = self.word(e)?;
@@ -102,7 +105,8 @@ impl<'a> Running<'a> {
 
     // Reads a device word into a variable.
     fn read(&mut self, x: &'a Name, a: u32) -> Result<(), OrMemory<Stop>>
-        ensures { Leads result self.new (read_device (with_local x.now) a (state_of self.old)) }
+        ensures leads { Leads result self.new (read_device (with_local x.now) a (state_of self.old)) }
+        ensures fuel { self.new.fuel ≡ self.old.fuel }
     {
         if !device_word(a) {
             return Err(OrMemory::Fault(Stop::Undefined));
@@ -118,7 +122,8 @@ impl<'a> Running<'a> {
 
     // Writes a device word.
     fn write(&mut self, a: u32, v: u32) -> Result<(), OrMemory<Stop>>
-        ensures { Leads result self.new (write_device a v (state_of self.old)) }
+        ensures leads { Leads result self.new (write_device a v (state_of self.old)) }
+        ensures fuel { self.new.fuel ≡ self.old.fuel }
     {
         if !device_word(a) {
             return Err(OrMemory::Fault(Stop::Undefined));
@@ -134,7 +139,8 @@ impl<'a> Running<'a> {
         action: &Name,
         words: &[u32],
     ) -> Result<(), OrMemory<Stop>>
-        ensures { Leads result self.new (interact results.now action.now words.now (state_of self.old)) }
+        ensures leads { Leads result self.new (interact results.now action.now words.now (state_of self.old)) }
+        ensures fuel { self.new.fuel ≡ self.old.fuel }
     {
         if action.bytes() == b"MMIOREAD".as_slice() {
             if let ([x], [a]) = (results, words) {
@@ -150,9 +156,9 @@ impl<'a> Running<'a> {
 
     // Takes the next choice for a buffer of n bytes: it is in memory then, and its address in the
     // variable.
-    pub(crate) fn take_buffer(&mut self, x: &'a Name, n: u32) -> Result<u32, OrMemory<Stop>>
-        ensures enters { (body : State → Run) → Enters result self.new n body (with_buffer (with_local x.now) n body (state_of self.old)) }
-        ensures within { IfOk result (λ a. a + n ≤ 2 ^ 32) }
+    pub(crate) fn take_buffer(&mut self, x: &'a Name, n: u32) -> Result<Held, OrMemory<Stop>>
+        ensures enters { (body : State → Run) → Enters result self.new body (with_buffer (with_local x.now) n body (state_of self.old)) }
+        ensures fuel { self.new.fuel ≡ self.old.fuel }
     {
         let Some((c, rest)) = self.choices.split_first() else {
             return Err(OrMemory::Fault(Stop::NoChoice));
@@ -167,7 +173,10 @@ impl<'a> Running<'a> {
         }
         self.choices = rest;
         self.variables.set(x, c.addr)?;
-        Ok(c.addr)
+        Ok(Held {
+            addr: c.addr,
+            size: n,
+        })
     }
 
     // The words of a function's results.

@@ -1,7 +1,6 @@
 // Programs that are run.
 
 use crate::{Finished, Interp};
-use br_base::NoMemory;
 use br_bytes::{ByteMap, Choice, Event, Outcome};
 use br_sexpr::read;
 use br_syntax::from_tree;
@@ -30,8 +29,8 @@ const NOTHING: Given = Given {
     fuel: 1000,
 };
 
-// Runs the first function of a text. The run itself may find no memory.
-fn try_run(alloc: Global, text: &str, given: &Given) -> Result<Result<Finished, NoMemory>, Fail> {
+// Runs the first function of a text to its end.
+fn run(alloc: Global, text: &str, given: &Given) -> Result<Finished, Fail> {
     if text.len() > 1_048_576 {
         return Err(Fail::new("a long text"));
     }
@@ -58,12 +57,7 @@ fn try_run(alloc: Global, text: &str, given: &Given) -> Result<Result<Finished, 
         given.answers,
         choices.as_slice(),
     )?;
-    Ok(interp.run(given.fuel))
-}
-
-// Runs the first function of a text to its end.
-fn run(alloc: Global, text: &str, given: &Given) -> Result<Finished, Fail> {
-    Ok(try_run(alloc, text, given)??)
+    Ok(interp.run(given.fuel)?)
 }
 
 // The events and the end of a run, separated by commas.
@@ -139,6 +133,24 @@ fn expressions_and_memory(rt: HostRuntime) -> Result<(), Fail> {
         let done = run(rt.alloc(), text, &given)?;
         assert_eq!(rt; shown(rt.alloc(), &done)?.as_str(), expected, "in {text}");
     }
+    let five = Given {
+        args: &[5],
+        ..NOTHING
+    };
+    let zero = Given {
+        args: &[0],
+        ..NOTHING
+    };
+    let selects = "(fn main (a) (r) (set r (ite a (divu 100 a) (load4 0))))";
+    let counts = "(fn main () (r) (set r 0) (while (ite (ltu r 9) 1 0) (set r (add r 4))))";
+    for (text, given, expected) in [
+        (selects, five, "done 00000014"),
+        (selects, zero, "undefined"),
+        (counts, NOTHING, "done 0000000c"),
+    ] {
+        let done = run(rt.alloc(), text, &given)?;
+        assert_eq!(rt; shown(rt.alloc(), &done)?.as_str(), expected, "in {text}");
+    }
     let eight = Given {
         memory: (0x80100000, b"\x00\x00\x00\x00\x00\x00\x00\x00"),
         ..NOTHING
@@ -155,6 +167,10 @@ fn expressions_and_memory(rt: HostRuntime) -> Result<(), Fail> {
 fn devices_and_buffers(rt: HostRuntime) -> Result<(), Fail> {
     let answered = Given {
         answers: &[5],
+        ..NOTHING
+    };
+    let ready = Given {
+        answers: &[0],
         ..NOTHING
     };
     let chosen = Given {
@@ -184,6 +200,11 @@ fn devices_and_buffers(rt: HostRuntime) -> Result<(), Fail> {
             "(fn main () (r) (interact (r) MMIOREAD 0x1001200E))",
             NOTHING,
             "undefined",
+        ),
+        (
+            "(fn main () (r) (interact () MMIOWRITE 0x10013000 65) (interact (r) MMIOREAD 0x10013004))",
+            ready,
+            "write 10013000 00000041, read 10013004 00000000, done 00000000",
         ),
         (buffer, NOTHING, "nochoice"),
         (buffer, chosen, "write 1001200c 11223344, done"),
@@ -227,23 +248,42 @@ fn loops_and_calls(rt: HostRuntime) -> Result<(), Fail> {
     Ok(())
 }
 
-// A function that calls itself stands one command deeper with each unit of fuel. The command that
-// finds no fuel stands at 1,024, and with one unit more it would stand past that.
-#[test]
-fn the_deepest_runs(rt: HostRuntime) -> Result<(), Fail> {
-    let text = "(fn main () () (call () main))";
-    let most = Given {
-        fuel: 1023,
-        ..NOTHING
-    };
-    let done = run(rt.alloc(), text, &most)?;
-    assert_eq!(rt; shown(rt.alloc(), &done)?.as_str(), "outoffuel");
-    let deeper = Given {
-        fuel: 1024,
-        ..NOTHING
-    };
-    match try_run(rt.alloc(), text, &deeper)? {
-        Err(NoMemory) => Ok(()),
-        Ok(_) => Err(Fail::new("an answer")),
+// A text with a part so many times between two others.
+fn repeated(alloc: Global, first: &str, part: &str, n: u32, last: &str) -> Result<String, Fail> {
+    let mut text = String::new(alloc);
+    write!(text, "{first}")?;
+    for _ in 0..n {
+        write!(text, "{part}")?;
     }
+    write!(text, "{last}")?;
+    Ok(text)
+}
+
+// Functions that each call the next inside a sequence, to the last.
+fn chain(alloc: Global, calls: u32) -> Result<String, Fail> {
+    let mut text = String::new(alloc);
+    for i in 0..calls {
+        write!(text, "(fn f{i} () (r) (seq (call (r) f{})))", u64::from(i) + 1)?;
+    }
+    write!(text, "(fn f{calls} () (r) (set r 7))")?;
+    Ok(text)
+}
+
+#[test]
+fn much_is_open(rt: HostRuntime) -> Result<(), Fail> {
+    let alloc = rt.alloc();
+    let functions = chain(alloc, 818)?;
+    let done = run(alloc, functions.as_str(), &NOTHING)?;
+    assert_eq!(rt; shown(alloc, &done)?.as_str(), "done 00000007");
+    let open = repeated(alloc, "(fn main () (r) ", "(seq ", 250, "(set r 7)")?;
+    let commands = repeated(alloc, open.as_str(), ")", 251, "")?;
+    let done = run(alloc, commands.as_str(), &NOTHING)?;
+    assert_eq!(rt; shown(alloc, &done)?.as_str(), "done 00000007");
+    let fuel = Given {
+        fuel: 100_000,
+        ..NOTHING
+    };
+    let done = run(alloc, "(fn main () () (call () main))", &fuel)?;
+    assert_eq!(rt; shown(alloc, &done)?.as_str(), "outoffuel");
+    Ok(())
 }
