@@ -55,9 +55,9 @@ pub one_page_more : (P : ℕ → Option (List ℕ) → Type 0) (pages : List (Op
 one_page_more P pages x n count before here page h = elim (cases_lt page n) [
   | inl p ↦ subst (P page) (sym (get_or_append_left pages (x ∷ []) None page (omega arith))) (before page p)
   | inr p ↦
-    (let same : n ≡ page = omega arith in
-        let end : n ≡ length pages + 0 = omega arith in
-        let last : slice_index_or (pages ++ x ∷ []) n None ≡ x =
-        ap (λ q. slice_index_or (pages ++ x ∷ []) q None) end ∙ get_or-append-add pages (x ∷ []) 0 None in
-        subst (λ q. P q (slice_index_or (pages ++ x ∷ []) q None)) same (subst (P n) (sym last) here))
+      (let same : n ≡ page = omega arith in
+      let end : n ≡ length pages + 0 = omega arith in
+      let last : slice_index_or (pages ++ x ∷ []) n None ≡ x =
+      ap (λ q. slice_index_or (pages ++ x ∷ []) q None) end ∙ get_or-append-add pages (x ∷ []) 0 None in
+      subst (λ q. P q (slice_index_or (pages ++ x ∷ []) q None)) same (subst (P n) (sym last) here))
 ]

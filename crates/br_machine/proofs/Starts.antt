@@ -31,11 +31,11 @@ index-filled l code i h =
     ∙ elim (cases_lt i (length (code_bytes code))) [
       | inl p ↦ get_or_append_left (code_bytes code) zeros 0 i (omega (arith, length-append (code_bytes code) zeros))
       | inr p ↦
-        (let k : ℕ = i - length (code_bytes code) in
-            let place : i ≡ length (code_bytes code) + k = omega arith in
-            ap (slice_index (code_bytes code ++ zeros)) place ∙ get_or-append-add (code_bytes code) zeros k 0
-            ∙ get_or-replicate n k 0 0 (omega (arith, length-code_bytes code))
-            ∙ sym (get_or_past (code_bytes code) i 0 p))
+          (let k : ℕ = i - length (code_bytes code) in
+          let place : i ≡ length (code_bytes code) + k = omega arith in
+          ap (slice_index (code_bytes code ++ zeros)) place ∙ get_or-append-add (code_bytes code) zeros k 0
+          ∙ get_or-replicate n k 0 0 (omega (arith, length-code_bytes code))
+          ∙ sym (get_or_past (code_bytes code) i 0 p))
     ]
 
 -- a memory of the data region has no byte of the code region

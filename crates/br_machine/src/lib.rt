@@ -19,8 +19,8 @@ mod trace;
 mod traps;
 
 pub use laws::{
-    junk_repeats_a_word, memories_of_the_data_region, register_0_reads_0, steps_add_up, steps_keep_the_code,
-    steps_make_machines, steps_that_end_change_nothing,
+    junk_repeats_a_word, memories_of_the_data_region, register_0_reads_0, steps_add_up,
+    steps_keep_the_code, steps_make_machines, steps_that_end_change_nothing,
 };
 pub use machine::Machine;
 pub use running::{End, run};

@@ -125,6 +125,13 @@ impl Ram {
         } }
     {
         let code = self.code.as_slice();
-        store(self.layout, code, self.junk, &mut self.pages, place, (v % 256) as u8);
+        store(
+            self.layout,
+            code,
+            self.junk,
+            &mut self.pages,
+            place,
+            (v % 256) as u8,
+        );
     }
 }

@@ -104,7 +104,14 @@ fn put(pages: &mut Vec<Page>, place: u32, b: u8)
 }
 
 /// Puts a byte at a place, whose page is made for it.
-pub(crate) fn store(layout: Layout, code: &[u32], junk: u32, pages: &mut Vec<Page>, place: u32, b: u8)
+pub(crate) fn store(
+    layout: Layout,
+    code: &[u32],
+    junk: u32,
+    pages: &mut Vec<Page>,
+    place: u32,
+    b: u8,
+)
     requires inside { place < ram_size layout }
     requires pages { length pages.old.items ≡ page_count layout }
     ensures bytes { bytes_in layout code.now junk pages.new.items

@@ -204,7 +204,12 @@ fn are_made(m: &Machine, count: u32, first: u32, second: u32) -> bool
 
 // lui x5, 0x80101; lw x6, 0(x5); sw x0, -2(x5): which of so many pages are made at the start, after
 // the load and after the store. The memory is in the first page of the data region.
-fn stores_make_pages(alloc: Global, layout: Layout, count: u32, first: u32) -> Result<bool, NoMemory>
+fn stores_make_pages(
+    alloc: Global,
+    layout: Layout,
+    count: u32,
+    first: u32,
+) -> Result<bool, NoMemory>
     requires count { count ≤ page_count layout }
     requires first { first < count }
 {

@@ -144,9 +144,18 @@ impl Machine {
                     None
                 }
             }
-            Ins::Load(op, _, rs1, imm) => load_trap(self.layout(), self.address(rs1, imm), load_size(op)),
+            Ins::Load(op, _, rs1, imm) => load_trap(
+                self.layout(),
+                self.address(rs1, imm),
+                load_size(op),
+            ),
             Ins::Store(op, rs1, _, imm) => {
-                store_trap(self.layout(), self.code_words(), self.address(rs1, imm), store_size(op))
+                store_trap(
+                    self.layout(),
+                    self.code_words(),
+                    self.address(rs1, imm),
+                    store_size(op),
+                )
             }
             Ins::Upper(..) | Ins::Imm(..) | Ins::Shift(..) | Ins::Reg(..) | Ins::Ecall => None,
         }

@@ -40,7 +40,11 @@ returns-clause-state c =
     let r : List ℕ = start_registers c.args.junk c.args.args.now in
     let registers : List ℕ = with_words 10 c.args.args.now (slice_set (junk_of c.args.junk).registers 0 0) in
     let state : Layout → List ℕ → List ℕ → List ℕ → MachineState = λ x r ram code. record {
-      layout = x; registers = r; pc = code_base x + c.args.entry; ram = ram; code_words = length code
+      layout = x;
+      registers = r;
+      pc = code_base x + c.args.entry;
+      ram = ram;
+      code_words = length code;
     } in
     ap (λ (m : Paged). m.state)
     (c.of.ensures ∙ same k c.set_arguments.new.registers c.args.args.now l c.code_base.result c.args.entry c.args.junk c.set_arguments.ensures c.code_base.ensures c.in_ok-ram.ensures.layout)
