@@ -1,5 +1,5 @@
 -- The machine as a call begins.
-use Rattle.std.proofs.Common.{◌≡◌, ℕ, zero, suc, ◌+◌, ◌-◌, ◌*◌, ◌<◌, ◌≤◌, List, [], ◌∷◌, ◌++◌, length, Option, Some, None, replicate, refl, sym, ap, subst, ◌∙◌, arith, length-append}
+use Rattle.std.proofs.Common.{◌≡◌, ℕ, zero, suc, ◌+◌, ◌-◌, ◌*◌, ◌<◌, ◌≤◌, List, [], ◌∷◌, ◌++◌, length, Option, Some, None, replicate, refl, ap, ◌∙◌, arith, length-append}
 use Rattle.std.specs.Prelude.{slice_index, slice_set, unwrap_or}
 use Rattle.std.specs.FinMap as map
 use Rattle.std.proofs.Math.ListN.{length-set}
@@ -9,7 +9,7 @@ use Rattle.br_bytes.specs.Memory.{Memory}
 use Rattle.br_words.specs.declared.layout.Layout.{Layout}
 use Rattle.br_words.specs.declared.layout.Layout.TheVariants.{One, Two}
 use Rattle.br_words.specs.Layout.{code_base, code_end, data_base, most_words, ram_base, stack_base}
-use Rattle.br_machine.specs.State.{MachineState, byte_of, code_place, ram_size}
+use Rattle.br_machine.specs.State.{byte_of, code_place, ram_size}
 use Rattle.br_machine.specs.Start.{Leftover, IsLeftover, with_words, overlaid, code_bytes, filled, start_ram, start}
 use Rattle.br_machine.proofs.Ram.{length-low_bytes}
 use Rattle.br_machine.proofs.Regions.{regions}

@@ -1,14 +1,11 @@
 -- RAM as a call begins, where one word tells the leftover bytes and no memory is handed in.
-use Rattle.std.proofs.Common.{◌≡◌, ℕ, zero, suc, ◌+◌, ◌-◌, ◌*◌, ◌^◌, ◌<◌, ◌≤◌, List, [], ◌∷◌, ◌++◌, length, take, replicate, refl, sym, subst, ap, ◌∙◌, arith, length-append}
-use Rattle.std.specs.Prelude.{◌/◌, ◌%◌, Some, unwrap_or, slice_get, slice_index, slice_set}
-use Rattle.std.specs.Ordering.{nat_cmp}
-use Rattle.std.specs.FinMap as map
+use Rattle.std.proofs.Common.{◌≡◌, ℕ, zero, suc, ◌+◌, ◌-◌, ◌*◌, ◌^◌, ◌<◌, ◌≤◌, List, [], ◌∷◌, ◌++◌, length, replicate, refl, sym, subst, ap, ◌∙◌, arith, length-append}
+use Rattle.std.specs.Prelude.{◌/◌, ◌%◌, Some, slice_get, slice_index, slice_set}
 use Rattle.br_bytes.specs.Number.{low_bytes}
 use Rattle.br_words.specs.Layout.{data_base, stack_end}
-use Rattle.br_machine.specs.State.{MachineState, IsMachine}
-use Rattle.br_machine.specs.Start.{IsLeftover, code_bytes, overlaid, start, start_ram, with_words}
+use Rattle.br_machine.specs.Start.{IsLeftover, code_bytes, with_words}
 use Rattle.br_machine.specs.Junk.{junk_of}
-use Rattle.std.proofs.lemmas.List.{take_all, length-replicate}
+use Rattle.std.proofs.lemmas.List.{length-replicate}
 use Rattle.std.proofs.Math.ListN.{length-set}
 use Rattle.std.specs.List.{AllByRecursion}
 use Rattle.br_machine.proofs.Fetch.{code_bytes-at}

@@ -7,7 +7,6 @@ use Rattle.std.proofs.lemmas.Bool.Decides.{nat_tests}
 use Rattle.br_words.specs.Device.{in_device_window}
 use Rattle.br_words.specs.declared.layout.Layout.{Layout}
 use Rattle.br_words.specs.Layout.{code_base, ram_base}
-use Rattle.br_machine.specs.declared.stepped.Trap.{Trap}
 use Rattle.br_machine.specs.declared.stepped.Trap.TheVariants.{AccessOutside, CodeWrite, DeviceAccess}
 use Rattle.br_machine.specs.Traps.{device_trap, in_ram, meet, store_trap}
 use Rattle.br_machine.specs.Pages.{page_base, page_size}

@@ -1,17 +1,16 @@
 -- What is kept when a call begins is the start.
-use Rattle.std.proofs.Common.{◌≡◌, ◌⊎◌, inl, inr, ℕ, zero, suc, ◌+◌, ◌-◌, ◌*◌, ◌/◌, ◌%◌, ◌^◌, ◌<◌, ◌≤◌, List, [], ◌∷◌, ◌++◌, length, map, replicate, Option, Some, None, Bool, true, false, refl, sym, ap, subst, ◌∙◌, arith, length-append}
-use Rattle.std.specs.Prelude.{◌&&◌, ◌==◌, nat_le, nat_lt, if◌then◌else◌, is_some, slice_index, slice_set, unwrap_or, IfSome}
+use Rattle.std.proofs.Common.{◌≡◌, ◌⊎◌, inl, inr, ℕ, ◌+◌, ◌-◌, ◌*◌, ◌%◌, ◌^◌, ◌<◌, ◌≤◌, List, [], ◌++◌, length, replicate, Option, Some, None, Bool, true, false, refl, sym, ap, subst, ◌∙◌, arith, length-append}
+use Rattle.std.specs.Prelude.{◌&&◌, nat_le, nat_lt, if◌then◌else◌, slice_index, slice_set, unwrap_or, IfSome}
 use Rattle.std.specs.List.{AllByRecursion}
 use Rattle.std.specs.FinMap as finite
 use Rattle.std.proofs.Math.ListN.{length-set}
 use Rattle.std.proofs.lemmas.Bool.{cases_lt}
-use Rattle.std.proofs.lemmas.Bool.Decides.{nat_tests}
 use Rattle.std.proofs.lemmas.List.{get_or_append_left, get_or-append-add, get_or_past, get_or-replicate, length-replicate}
 use Rattle.br_bytes.specs.Number.{low_bytes}
 use Rattle.br_bytes.specs.Memory.{Memory}
 use Rattle.br_words.specs.declared.layout.Layout.{Layout}
-use Rattle.br_words.specs.Layout.{code_base, code_end, data_base, most_words, ram_base, ram_end, stack_base, stack_end}
-use Rattle.br_machine.specs.State.{IsMachine, code_place, ram_size}
+use Rattle.br_words.specs.Layout.{code_base, code_end, data_base, most_words, ram_base, stack_base, stack_end}
+use Rattle.br_machine.specs.State.{code_place, ram_size}
 use Rattle.br_machine.specs.Start.{IsInData, IsLeftover, code_bytes, filled, start_ram, with_words}
 use Rattle.br_machine.specs.Junk.{junk_of}
 use Rattle.br_machine.specs.Pages.{IsPaged, page_count}

@@ -1,6 +1,6 @@
 -- Straight code: one instruction at a time, and one stretch of steps after another.
-use Rattle.std.proofs.Common.{◌≡◌, ◌≢◌, ◌⊎◌, inl, inr, ℕ, zero, suc, ◌+◌, ◌-◌, ◌*◌, ◌^◌, ◌<◌, ◌≤◌, List, [], ◌∷◌, ◌++◌, length, map, Option, Some, None, Bool, true, false, refl, sym, ap, subst, ◌∙◌, arith, append_assoc, length-append}
-use Rattle.std.specs.Prelude.{slice_get, slice_index, slice_set, ◌==◌, nat_lt, nat_le, ◌%◌, ◌&&◌, ◌||◌, if◌then◌else◌, ℤ}
+use Rattle.std.proofs.Common.{◌≡◌, ◌≢◌, inl, inr, ℕ, zero, suc, ◌+◌, ◌-◌, ◌*◌, ◌^◌, ◌<◌, ◌≤◌, List, [], ◌∷◌, ◌++◌, length, Some, None, Bool, true, false, refl, sym, ap, subst, ◌∙◌, arith, append_assoc, length-append}
+use Rattle.std.specs.Prelude.{slice_get, slice_index, ◌==◌, nat_lt, ◌%◌, ◌&&◌, if◌then◌else◌, ℤ}
 use Rattle.std.proofs.Math.ListN.{length-set}
 use Rattle.std.proofs.lemmas.Bool.{eqb-true}
 use Rattle.std.proofs.lemmas.Bool.Decides.{nat_tests}
@@ -16,12 +16,12 @@ use Rattle.br_rv32im.specs.Row.{row_of}
 use Rattle.br_machine.specs.declared.stepped.Stepped.{Stepped}
 use Rattle.br_machine.specs.declared.stepped.Stepped.TheVariants.{Ran, Wrote}
 use Rattle.br_words.specs.declared.layout.Layout.{Layout}
-use Rattle.br_words.specs.Layout.{code_base, code_end, data_base, ram_base, ram_end, most_words, stack_base, stack_end}
+use Rattle.br_words.specs.Layout.{code_base, code_end, data_base, ram_base, ram_end, most_words, stack_end}
 use Rattle.br_machine.specs.State.{MachineState, code_place, register, with_register, bytes_from, with_bytes_from}
 use Rattle.br_machine.specs.Traps.{trap_of, in_ram, meet, load_trap, store_trap, address}
 use Rattle.br_machine.specs.Effects.{effect, computes, moved_on, device_read}
-use Rattle.br_machine.specs.Step.{step, fetched, obey}
-use Rattle.br_machine.specs.Steps.{Moment, moment_after, next_answer, next_step, code_region, accessed, IsAbove, StepsTo, Runs}
+use Rattle.br_machine.specs.Step.{fetched, obey}
+use Rattle.br_machine.specs.Steps.{Moment, moment_after, next_answer, code_region, accessed, IsAbove, StepsTo, Runs}
 use Rattle.br_machine.proofs.Fetch.{HasCode, step-at, fetched-code}
 use Rattle.br_machine.proofs.Ram.{take_drop-with_bytes_from}
 use Rattle.br_machine.proofs.Regions.{regions}

@@ -1,9 +1,8 @@
 -- A byte of a word, or past the end of the code.
-use Rattle.std.proofs.Common.{◌≡◌, ℕ, ◌+◌, ◌*◌, ◌/◌, ◌%◌, ◌<◌, ◌≤◌, length, [], ◌∷◌, refl, sym, ap, ◌∙◌, arith}
+use Rattle.std.proofs.Common.{◌≡◌, ℕ, ◌+◌, ◌*◌, ◌/◌, ◌%◌, ◌≤◌, length, refl, sym, ap, ◌∙◌, arith}
 use Rattle.std.specs.Prelude.{slice_index}
 use Rattle.std.proofs.lemmas.List.{get_or_past}
 use Rattle.std.proofs.lemmas.Option.{slice_get_read}
-use Rattle.br_bytes.specs.Number.{low_bytes}
 use Rattle.br_machine.specs.Start.{code_bytes}
 use Rattle.br_machine.proofs.Fetch.{code_bytes-at}
 use Rattle.br_machine.proofs.Begins.{length-code_bytes}

@@ -1,7 +1,6 @@
 -- One byte differs, and its page is made.
-use Rattle.std.proofs.Common.{◌≡◌, ℕ, ◌/◌, ◌%◌, ◌*◌, ◌+◌, None, List, map, sym, ap, ◌∙◌, arith}
-use Rattle.std.specs.Prelude.{is_some, slice_index_or, slice_set}
-use Rattle.br_machine.specs.Kept.{bytes_in, first_byte}
+use Rattle.std.proofs.Common.{ℕ, ◌/◌, ◌%◌, ◌∙◌, arith}
+use Rattle.br_machine.specs.Kept.{first_byte}
 use Rattle.br_machine.proofs.Kept.{bytes_in-set}
 use Rattle.br_machine.proofs.pages.store.Goals as goal
 

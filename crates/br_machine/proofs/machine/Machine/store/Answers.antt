@@ -1,5 +1,5 @@
 -- The pages of the bytes that are stored are made; a device word is in no page.
-use Rattle.std.proofs.Common.{rules, ◌≡◌, ℕ, ◌-◌, ◌<◌, ◌≤◌, length, false, true, sym, ap, subst, ◌∙◌}
+use Rattle.std.proofs.Common.{rules, ◌≡◌, ℕ, ◌-◌, ◌<◌, false, true, sym, ap, subst, ◌∙◌}
 use Rattle.std.specs.Prelude.{◌||◌, slice_index_or}
 use Rattle.br_words.specs.Layout.{ram_base}
 use Rattle.br_machine.specs.Traps.{address, in_ram, meet, store_size}

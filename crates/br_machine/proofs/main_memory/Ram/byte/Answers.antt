@@ -1,7 +1,6 @@
 -- The byte of the pages.
-use Rattle.std.proofs.Common.{◌≡◌, ℕ, List, Option, sym, ap, subst, ◌∙◌, ◌<◌}
+use Rattle.std.proofs.Common.{ℕ, List, Option, sym, ap, subst, ◌∙◌, ◌<◌}
 use Rattle.std.specs.Prelude.{slice_index}
-use Rattle.br_words.specs.declared.layout.Layout.{Layout}
 use Rattle.br_machine.specs.State.{ram_size}
 use Rattle.br_machine.specs.Kept.{Kept, byte_at}
 use Rattle.br_machine.proofs.Kept.{index-bytes_in}
