@@ -109,7 +109,7 @@ by_name : (xs : List ℕ) (b : Bool) → is_name xs ≡ b → IsName xs ⊎ (IsN
 by_name xs true h = inl h
 by_name xs false h = inr (λ k. absurd cc)
 
-name_or_not : (xs : List ℕ) → IsName xs ⊎ (IsName xs → ⊥)
+pub name_or_not : (xs : List ℕ) → IsName xs ⊎ (IsName xs → ⊥)
 name_or_not xs = by_name xs (is_name xs) refl
 
 fields_or_not : (xs : List ℕ) → ((e : Entry) × IsEntryLine e × (xs ≡ fields_text e)) ⊎ ((e : Entry) → IsEntryLine e → xs ≢ fields_text e)

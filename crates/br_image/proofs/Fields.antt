@@ -12,7 +12,7 @@ use Rattle.br_words.specs.Layout.{most_words}
 use Rattle.br_image.specs.declared.images.Entry.{Entry}
 use Rattle.br_image.specs.declared.lines.Line.{Line}
 use Rattle.br_image.specs.declared.lines.Line.TheVariants.{Header, Function, Count, Word, End}
-use Rattle.br_image.specs.Text.{version_text, header_text, word_text}
+use Rattle.br_image.specs.Text.{version_text, word_text}
 use Rattle.br_image.specs.Lines.{IsLine, IsEntryLine, line_text}
 use Rattle.br_image.specs.Forms.{Lacks, IsLineOf, fields_text}
 use Rattle.br_image.proofs.Pieces.{Free, Free-not, Free-lacks, Lacks-free, Free-from_test, Free-decimal, Free-name, cut}

@@ -16,7 +16,7 @@ use Rattle.br_image.specs.Forms.{numbers_text}
 use Rattle.br_image.specs.Lines.{IsLine, IsEntryLine, line_text}
 use Rattle.br_image.proofs.Pieces.{Free, Free-append, Free-from_test, Free-decimal, Free-name, cut}
 
-hex_digit-above : (d : ℕ) → 48 ≤ hex_digit d
+pub hex_digit-above : (d : ℕ) → 48 ≤ hex_digit d
 hex_digit-above d = grind (arith, nat_tests)
 
 hex_digit-below : (d : ℕ) → d < 16 → hex_digit d < 103
@@ -25,7 +25,7 @@ hex_digit-below d h = grind (arith, nat_tests)
 hex_digit-injective : (c d : ℕ) → c < 16 → d < 16 → hex_digit c ≡ hex_digit d → c ≡ d
 hex_digit-injective c d h k e = grind (arith, nat_tests)
 
-Free-digit : (c d : ℕ) → c < 48 → hex_digit d ≢ c
+pub Free-digit : (c d : ℕ) → c < 48 → hex_digit d ≢ c
 Free-digit c d low = let above = hex_digit-above d in omega arith
 
 pub Free-word : (c w : ℕ) → c < 48 → Free c (word_text w)
@@ -111,7 +111,7 @@ fields-injective e f h k same =
     (decimal_injective e.offset f.offset (omega arith) (omega arith) four.0)
     (decimal_injective e.need f.need (omega arith) (omega arith) four.1)
 
-word_text-injective : (v w : ℕ) → v < 2 ^ 32 → w < 2 ^ 32 → word_text v ≡ word_text w → v ≡ w
+pub word_text-injective : (v w : ℕ) → v < 2 ^ 32 → w < 2 ^ 32 → word_text v ≡ word_text w → v ≡ w
 word_text-injective v w h k e =
     let d0 = hex_digit-injective (v / 268435456 % 16) (w / 268435456 % 16) (omega arith) (omega arith) cc in
     let d1 = hex_digit-injective (v / 16777216 % 16) (w / 16777216 % 16) (omega arith) (omega arith) cc in

@@ -8,8 +8,7 @@ use Rattle.std.proofs.lemmas.List.{get_or-take, length-take}
 use Rattle.std.proofs.lemmas.List.Elements.{All-head, All-tail}
 use Rattle.std.proofs.lemmas.Option.{get_or_from_slice_get, slice_get_within}
 use Rattle.br_words.specs.declared.layout.Layout.{Layout}
-use Rattle.br_words.specs.declared.layout.Layout.TheVariants.{One, Two}
-use Rattle.br_words.specs.Layout.{most_words}
+use Rattle.br_words.specs.declared.layout.Layout.TheVariants.{Two}
 use Rattle.br_image.specs.declared.images.Entry.{Entry}
 use Rattle.br_image.specs.declared.images.Image.{Image}
 use Rattle.br_image.specs.declared.lines.Line.{Line}

@@ -90,6 +90,6 @@ IsFault text (BadOffset n) = IsBadOffset text n
 IsFault text (Truncated n) = IsTruncated text n
 
 -- a refusal is want of memory, or a fault of which this holds
-abbrev pub ForFault : OrMemory ImageFault → (ImageFault → Type 0) → Type 0
+abbrev pub ForFault : {F : Type 0} → OrMemory F → (F → Type 0) → Type 0
 ForFault Memory P = Unit {0}
 ForFault (Fault f) P = P f

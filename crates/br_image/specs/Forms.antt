@@ -1,5 +1,5 @@
 -- What a piece of a text is the spelling of.
-use Rattle.std.specs.Prelude.{ℕ, ◌≡◌, ◌≢◌, List, ◌∷◌, ◌++◌, All, Option, Some, None}
+use Rattle.std.specs.Prelude.{ℕ, ◌≡◌, ◌≢◌, List, [], ◌∷◌, ◌++◌, All, Option, Some, None}
 use Rattle.std.specs.Fmt.{decimal}
 use Rattle.br_words.specs.declared.layout.Layout.{Layout}
 use Rattle.br_image.specs.declared.images.Entry.{Entry}
@@ -9,6 +9,11 @@ use Rattle.br_image.specs.Lines.{IsLine, line_text}
 -- no byte is this one
 abbrev pub Lacks : ℕ → List ℕ → Type 0
 Lacks c bytes = All (λ b. b ≢ c) bytes
+
+-- nothing, or something that begins with a space
+abbrev pub IsTail : List ℕ → Type 0
+IsTail [] = Unit {0}
+IsTail (b ∷ bytes) = b ≡ 32
 
 -- what stands in an entry's line after the name
 abbrev pub numbers_text : ℕ → ℕ → ℕ → ℕ → List ℕ

@@ -1,7 +1,13 @@
 pub mod Faults
+pub mod Fields
 pub mod Forms
 pub mod Limits
 pub mod Lines
 pub mod Printed
 pub mod Reading
+pub mod Said
+pub mod ScriptLines
+pub mod ScriptReading
+pub mod Scripts
 pub mod Text
+pub mod TextLines

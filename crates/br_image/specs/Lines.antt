@@ -3,7 +3,7 @@ use Rattle.std.specs.Prelude.{ℕ, ◌*◌, ◌<◌, ◌≤◌, ◌^◌, List, [
 use Rattle.std.specs.List.{flat_map}
 use Rattle.br_base.specs.Name.{IsName}
 use Rattle.br_words.specs.declared.layout.Layout.{Layout}
-use Rattle.br_words.specs.declared.layout.Layout.TheVariants.{One, Two}
+use Rattle.br_words.specs.declared.layout.Layout.TheVariants.{Two}
 use Rattle.br_words.specs.Layout.{most_words, most_stack}
 use Rattle.br_image.specs.declared.images.Entry.{Entry}
 use Rattle.br_image.specs.declared.lines.Line.{Line}

@@ -8,6 +8,7 @@ mod lines;
 mod parsing;
 mod printing;
 mod reading;
+mod scripts;
 #[cfg(test)]
 mod tests;
 
@@ -16,3 +17,7 @@ pub use images::{Entry, Image};
 pub use laws::{one_image_or_one_fault, two_images_have_two_texts};
 pub use printing::{print, word_digits};
 pub use reading::read;
+pub use scripts::{
+    InterpScript, RunScript, ScriptFault, one_interp_script_or_one_fault,
+    one_run_script_or_one_fault, read_interp, read_run,
+};

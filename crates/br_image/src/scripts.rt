@@ -1,0 +1,16 @@
+// Scripts: what a run of an image or of a source text is started with.
+
+mod fields;
+mod laws;
+pub(crate) mod lines;
+mod order;
+mod parsing;
+mod reading;
+mod said;
+#[cfg(test)]
+mod tests;
+mod values;
+
+pub use laws::{one_interp_script_or_one_fault, one_run_script_or_one_fault};
+pub use reading::{read_interp, read_run};
+pub use values::{InterpScript, RunScript, ScriptFault};
