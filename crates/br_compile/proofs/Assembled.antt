@@ -5,7 +5,8 @@ use Rattle.std.specs.declared.alloc.Global.{Global}
 use Rattle.br_compile.specs.Puts.{IsWholeCode}
 use Rattle.br_base.specs.Name.{IsName}
 use Rattle.br_syntax.specs.declared.program.Func.{Func}
-use Rattle.br_measure.specs.Bulk.{function_bulk}
+use Rattle.br_words.specs.declared.layout.Layout.TheVariants.{Two}
+use Rattle.br_measure.specs.Bulk.{function_bulk, largest_bulk}
 use Rattle.br_image.specs.declared.images.Entry.{Entry}
 use Rattle.br_image.specs.Limits.{EntryInLimits, InLimits}
 use Rattle.br_rv32im.specs.declared.instruction.Ins.{Ins}
@@ -22,8 +23,8 @@ no_pairs : (R : Entry → Entry → Type 0) (e : Entry) → AllPairs R (e ∷ []
 no_pairs R e i j d l m = absurd (omega arith)
 
 -- the limits of an image of one function, whose code this is
-pub limits_one : Table → (f : Func) (e : Entry) (entries : List Entry) (code : List ℕ) (body : List Ins) → f.args ≡ [] → f.results ≡ [] → commands_code f.body ≡ Some body → function_bulk f ≤ 8192
-    → IsName e.name → IsEntryOf f e → entries ≡ e ∷ [] → code ≡ words_of body → All (λ w. w < 2 ^ 32) code → InLimits entries code
+pub limits_one : Table → (f : Func) (e : Entry) (entries : List Entry) (code : List ℕ) (body : List Ins) → f.args ≡ [] → f.results ≡ [] → commands_code f.body ≡ Some body → function_bulk f ≤ largest_bulk
+    → IsName e.name → IsEntryOf f e → entries ≡ e ∷ [] → code ≡ words_of body → All (λ w. w < 2 ^ 32) code → InLimits Two entries code
 limits_one table f e entries code body no_args no_results has small name entry is words all =
     let none1 = ap length no_args in let none2 = ap length no_results in
     let len : length code ≡ length body + 2 = ap length words ∙ length-words_of body in

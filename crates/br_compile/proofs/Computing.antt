@@ -65,7 +65,7 @@ both_run table is1 is2 last v1 v2 h1 h2 small run1 run2 code low j sp h m le1 le
     let c = run2 code low (j + length is1 + 2) (sp - 4) mb (pushed_room code low sp h2 room2) b.placed (InsAt-front code (j + length is1 + 2) is2 _ has3) in
     let mc = record m { machine = c.after } in
     let has4 = InsAt-back code (j + length is1 + 2) is2 (pop_code ++ last) has3 in
-    let word = ram_word-same low (sp - 4) (sp - 4) b.after c.after (omega arith) (omega arith) c.keeps ∙ b.word in
+    let word = ram_word-same low (sp - 4) (sp - 4) b.after c.after b.placed.layout c.placed.layout (omega arith) (omega arith) c.keeps ∙ b.word in
     let d = pop_runs table code low (j + length is1 + 2 + length is2) sp h2 v1 v2 mc word c.value room2 c.placed (InsAt-front code (j + length is1 + 2 + length is2) pop_code last has4) in
     let md = record m { machine = d.after } in
     record {
@@ -197,6 +197,7 @@ layer table (Expr-F.Literal n) is code = literal table n is (nat_lt n (2 ^ 32)) 
 layer table (Expr-F.Var x) is code = let none = code_of (Expr-F.Var x) in absurd (cc)
 layer table (Expr-F.Load size a) is code = let none = code_of (Expr-F.Load size a.0) in absurd (cc)
 layer table (Expr-F.Table size bytes i) is code = let none = code_of (Expr-F.Table size bytes i.0) in absurd (cc)
+layer table (Expr-F.Ite test a b) is code = let none = code_of (Expr-F.Ite test.0 a.0 b.0) in absurd (cc)
 layer table (Expr-F.Op o a b) is code = operation table o a b is (expression_code a.0) (expression_code b.0) refl refl (sym (code_of (Expr-F.Op o a.0 b.0)) ∙ code)
 
 pub expression_computed : Table → (e : Expr) → Q e

@@ -2,6 +2,7 @@
 use Rattle.std.proofs.Common.{◌≡◌, ◌⊎◌, inl, inr, ℕ, zero, suc, ◌+◌, ◌-◌, ◌<◌, ◌≤◌, List, [], ◌∷◌, ◌++◌, Option, Some, None, refl, sym, ap, subst, ◌∙◌, arith, append_assoc}
 use Rattle.std.proofs.lemmas.List.{append-nil}
 use Rattle.std.proofs.lemmas.Bool.{cases_lt}
+use Rattle.br_words.specs.declared.layout.Layout.{Layout}
 use Rattle.br_bytes.specs.declared.run.Event.{Event}
 use Rattle.br_bytes.specs.declared.run.Event.TheVariants as event
 use Rattle.br_bytes.specs.declared.run.Outcome.{Outcome}
@@ -16,8 +17,9 @@ use Rattle.br_machine.specs.Step.{step}
 use Rattle.br_machine.specs.Start.{Leftover}
 use Rattle.br_machine.specs.Steps.{Moment, moment_after, next_answer, next_step, onward, after_steps, Runs}
 use Rattle.br_emit.specs.Reaches.{ShowsEnd}
-use Rattle.br_compile.specs.Implements.{Follows}
-use Rattle.br_compile.specs.FirstSteps.{DoesNotTrap, ShowsFront, FollowsAtFirst}
+use Rattle.br_image.specs.declared.images.Image.{Image}
+use Rattle.br_compile.specs.Implements.{Follows, Implements}
+use Rattle.br_compile.specs.FirstSteps.{DoesNotTrap, ShowsFront, FollowsAtFirst, ImplementsAtFirst}
 
 -- a step that goes on does not trap
 goes_on : (m next : Moment) (s : MachineState × Stepped) → moment_after m s ≡ Some next → DoesNotTrap s.1
@@ -116,12 +118,18 @@ shows_front low i n m e runs (inr (lt, stops)) = record {
     each k (inl h) = none_traps low i k m e h runs
     each k (inr h) = subst (λ x. DoesNotTrap (next_step x).1) (sym (there (k - i) k (omega arith))) stops.fine
 
-pub follows_at_first : (code : List ℕ) (fs : List Func) (f : Func) (entry : Entry) (args : List ℕ) (m : Memory) (answers : List ℕ) (j : Leftover) (n : ℕ)
-    → Follows code fs f entry args m answers j n → FollowsAtFirst code fs f entry args m answers j n
-follows_at_first code fs f entry args m answers j n (choices, are, inl undefined) = (choices, are, inl undefined)
-follows_at_first code fs f entry args m answers j n (choices, are, inr r) =
+pub follows_at_first : (layout : Layout) (code : List ℕ) (fs : List Func) (f : Func) (entry : Entry) (args : List ℕ) (m : Memory) (answers : List ℕ) (j : Leftover) (n : ℕ)
+    → Follows layout code fs f entry args m answers j n → FollowsAtFirst layout code fs f entry args m answers j n
+follows_at_first layout code fs f entry args m answers j n (choices, are, inl undefined) = (choices, are, inl undefined)
+follows_at_first layout code fs f entry args m answers j n (choices, are, inr r) =
     (choices, are, inr (subst (ShowsFront n _) r.shows_trace (shows_front _ r.steps n _ r.last r.runs (by (cases_lt r.steps n)))))
   where
     by : (r.steps < n) ⊎ (n ≤ r.steps) → (n ≤ r.steps) ⊎ ((r.steps < n) × Stops r.last)
     by (inl h) = inr (h, ended _ n r.steps r.last h r.shows_end)
     by (inr h) = inl h
+
+pub implements_at_first : (i : Image) (fs : List Func) → Implements i fs → ImplementsAtFirst i fs
+implements_at_first i fs does = record {
+  follows = λ n f entry at at' args len words m in_data answers words' j left steps.
+      follows_at_first i.layout i.code fs f entry args m answers j steps (does.follows n f entry at at' args len words m in_data answers words' j left steps);
+}

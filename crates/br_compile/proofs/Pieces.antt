@@ -1,5 +1,5 @@
 -- The instructions that sums are computed with, one at a time.
-use Rattle.std.proofs.Common.{◌≡◌, ◌≢◌, ◌⊎◌, inl, inr, ℕ, suc, ◌+◌, ◌-◌, ◌*◌, ◌/◌, ◌%◌, ◌^◌, ◌<◌, ◌≤◌, List, ◌++◌, length, map, Some, Bool, true, false, refl, ap, subst, ◌∙◌, arith}
+use Rattle.std.proofs.Common.{◌≡◌, ◌≢◌, ◌⊎◌, inl, inr, ℕ, suc, ◌+◌, ◌-◌, ◌*◌, ◌/◌, ◌%◌, ◌^◌, ◌<◌, ◌≤◌, List, ◌++◌, length, map, Some, Bool, true, false, refl, sym, ap, subst, ◌∙◌, arith}
 use Rattle.std.proofs.lemmas.Bool.{ltb-true, ltb-false}
 use Rattle.std.proofs.lemmas.Int.{ints}
 use Rattle.std.proofs.lemmas.List.{map-append, length-map}
@@ -15,35 +15,41 @@ use Rattle.br_rv32im.specs.declared.instruction.StoreOp.TheVariants.{Sw}
 use Rattle.br_rv32im.specs.declared.instruction.RegOp.TheVariants.{Add}
 use Rattle.br_rv32im.specs.Encoding.{word_of, Fits, FitsSignedBits}
 use Rattle.br_rv32im.specs.Row.{row_of}
-use Rattle.br_machine.specs.Layout.{code_base, stack_base, ram_end}
-use Rattle.br_machine.specs.State.{MachineState, register, bytes_from, with_bytes_from}
+use Rattle.br_words.specs.declared.layout.Layout.{Layout}
+use Rattle.br_words.specs.declared.layout.Layout.TheVariants.{Two}
+use Rattle.br_words.specs.Layout.{code_base, most_words, ram_base, ram_end, stack_base, stack_end}
+use Rattle.br_machine.specs.State.{MachineState, code_place, ram_size, register, bytes_from, with_bytes_from}
 use Rattle.br_machine.specs.Effects.{computes, moved_on}
 use Rattle.br_machine.specs.Steps.{Moment, StepsTo, Runs}
 use Rattle.br_machine.proofs.Ram.{bytes_from-same, index-with_bytes_from, length-with_bytes_from, length-low_bytes, word_at-with_bytes_from}
 use Rattle.br_machine.proofs.Fetch.{HasCode, within_code}
-use Rattle.br_machine.proofs.Straight.{IsAbove-none, step_computes, step_stores_word, step_loads_word, stored, ram_word, HasAt, HasAt-front, HasAt-back, HasCode-same, HasCode-computes, ram-with_register, pc-with_register, length-with_register, register-with_register_same, register-with_register_other}
+use Rattle.br_machine.proofs.Straight.{IsAbove-none, step_computes, step_stores_word, step_loads_word, stored, ram_word, HasAt, HasAt-front, HasAt-back, HasCode-same, HasCode-computes, layout-with_register, ram-with_register, pc-with_register, length-with_register, register-with_register_same, register-with_register_other}
 use Rattle.br_compile.specs.SumCode.{low_part, high_part, constant_code, push_code, pop_code}
 
 -- ---- what holds between instructions
 
 -- the machine is at word j of its code, and x2 points to a place of the stack
 pub record Placed (code : List ℕ) (j sp : ℕ) (s : MachineState) : Type 0 where
+  pub layout : s.layout ≡ Two
   pub has : HasCode code s
-  pub pc : s.pc ≡ code_base + 4 * j
+  pub pc : s.pc ≡ code_base Two + 4 * j
   pub pointer : register s 2 ≡ sp
   pub registers : length s.registers ≡ 32
-  pub ram : length s.ram ≡ 3145728
+  pub ram : length s.ram ≡ ram_size Two
+
+pub pc_at : (code : List ℕ) (j sp : ℕ) (s : MachineState) → Placed code j sp s → s.pc ≡ code_base s.layout + 4 * j
+pc_at code j sp s placed = placed.pc ∙ ap (λ (l : Layout). code_base l + 4 * j) (sym placed.layout)
 
 -- so many words below the stack pointer are above the bound
 pub record Room (code : List ℕ) (low sp h : ℕ) : Type 0 where
-  pub few : length code ≤ 262144
+  pub few : length code ≤ most_words Two
   pub bottom : stack_base ≤ low
   pub room : low + 4 * h ≤ sp
-  pub top : sp ≤ ram_end
+  pub top : sp ≤ stack_end
 
 -- the bytes of RAM outside a range of addresses are as before
 pub record Keeps (low high : ℕ) (s s' : MachineState) : Type 0 where
-  pub bytes : (p : ℕ) → (p + code_base < low) ⊎ (high ≤ p + code_base) → slice_index s'.ram p ≡ slice_index s.ram p
+  pub bytes : (p : ℕ) → (p + ram_base Two < low) ⊎ (high ≤ p + ram_base Two) → slice_index s'.ram p ≡ slice_index s.ram p
 
 pub Keeps-refl : (low high : ℕ) (s : MachineState) → Keeps low high s s
 Keeps-refl low high s = record { bytes = λ p out. refl }
@@ -51,7 +57,7 @@ Keeps-refl low high s = record { bytes = λ p out. refl }
 pub Keeps-then : (low high : ℕ) (a b c : MachineState) → Keeps low high a b → Keeps low high b c → Keeps low high a c
 Keeps-then low high a b c first second = record { bytes = λ p out. second.bytes p out ∙ first.bytes p out }
 
-wider : (low high up p : ℕ) → high ≤ up → (p + code_base < low) ⊎ (up ≤ p + code_base) → (p + code_base < low) ⊎ (high ≤ p + code_base)
+wider : (low high up p : ℕ) → high ≤ up → (p + ram_base Two < low) ⊎ (up ≤ p + ram_base Two) → (p + ram_base Two < low) ⊎ (high ≤ p + ram_base Two)
 wider low high up p h (inl l) = inl l
 wider low high up p h (inr r) = inr (omega arith)
 
@@ -83,11 +89,12 @@ pub record Table : Type 0 where
   pub decoded : (i : Ins) → Fits i → row_of (word_of i) ≡ Some i
 
 -- the address behind word j
-pub next_word : (code : List ℕ) (j pc : ℕ) → length code ≤ 262144 → j < length code → pc ≡ code_base + 4 * j → (pc + 4) % 2 ^ 32 ≡ code_base + 4 * (j + 1)
+pub next_word : (code : List ℕ) (j pc : ℕ) → length code ≤ most_words Two → j < length code → pc ≡ code_base Two + 4 * j → (pc + 4) % 2 ^ 32 ≡ code_base Two + 4 * (j + 1)
 next_word code j pc few inside is = omega arith
 
-pub Placed-computes : (code : List ℕ) (j sp rd v : ℕ) (s : MachineState) → length code ≤ 262144 → j < length code → Placed code j sp s → 2 ≢ rd → Placed code (j + 1) sp (computes rd v s)
+pub Placed-computes : (code : List ℕ) (j sp rd v : ℕ) (s : MachineState) → length code ≤ most_words Two → j < length code → Placed code j sp s → 2 ≢ rd → Placed code (j + 1) sp (computes rd v s)
 Placed-computes code j sp rd v s few inside placed ne = record {
+  layout = layout-with_register rd v (moved_on s) ∙ placed.layout;
   has = HasCode-computes code s rd v placed.has;
   pc = pc-with_register rd v (moved_on s) ∙ next_word code j s.pc few inside placed.pc;
   pointer = register-with_register_other rd 2 v (moved_on s) ne ∙ placed.pointer;
@@ -96,8 +103,9 @@ Placed-computes code j sp rd v s few inside placed ne = record {
 }
 
 -- the stack pointer itself is set
-pub Placed-moves : (code : List ℕ) (j sp v : ℕ) (s : MachineState) → length code ≤ 262144 → j < length code → Placed code j sp s → Placed code (j + 1) v (computes 2 v s)
+pub Placed-moves : (code : List ℕ) (j sp v : ℕ) (s : MachineState) → length code ≤ most_words Two → j < length code → Placed code j sp s → Placed code (j + 1) v (computes 2 v s)
 Placed-moves code j sp v s few inside placed = record {
+  layout = placed.layout;
   has = HasCode-computes code s 2 v placed.has;
   pc = next_word code j s.pc few inside placed.pc;
   pointer = register-with_register_same 2 v (moved_on s) (omega arith) (omega (arith, placed.registers));
@@ -112,19 +120,19 @@ Keeps-computes low high rd v s = record { bytes = λ p out. ap (λ ram. slice_in
 pub lui : Table → (code : List ℕ) (low j sp rd f : ℕ) (m : Moment) → Placed code j sp m.machine → slice_get code j ≡ Some (word_of (Upper Lui rd f)) → rd < 2 ^ 5 → f < 2 ^ 20 → StepsTo low m (record m { machine = computes rd (f * 4096) m.machine })
 lui table code low j sp rd f m placed at r_fits f_fits =
     let i = Upper Lui rd f in
-    step_computes code low m j (word_of i) i rd (f * 4096) placed.has at (table.small i (r_fits, f_fits)) (table.decoded i (r_fits, f_fits)) placed.pc refl refl (IsAbove-none low)
+    step_computes code low m j (word_of i) i rd (f * 4096) placed.has at (table.small i (r_fits, f_fits)) (table.decoded i (r_fits, f_fits)) (pc_at code j sp m.machine placed) refl refl (IsAbove-none low)
 
 -- ADDI
 pub addi : Table → (code : List ℕ) (low j sp rd rs : ℕ) (imm : ℤ) (m : Moment) → Placed code j sp m.machine → slice_get code j ≡ Some (word_of (Imm Addi rd rs imm)) → rd < 2 ^ 5 → rs < 2 ^ 5 → FitsSignedBits 12 imm → StepsTo low m (record m { machine = computes rd ((register m.machine rs + wrapped imm) % 2 ^ 32) m.machine })
 addi table code low j sp rd rs imm m placed at rd_fits rs_fits imm_fits =
     let i = Imm Addi rd rs imm in let fits : Fits i = (rd_fits, rs_fits, imm_fits) in
-    step_computes code low m j (word_of i) i rd ((register m.machine rs + wrapped imm) % 2 ^ 32) placed.has at (table.small i fits) (table.decoded i fits) placed.pc refl refl (IsAbove-none low)
+    step_computes code low m j (word_of i) i rd ((register m.machine rs + wrapped imm) % 2 ^ 32) placed.has at (table.small i fits) (table.decoded i fits) (pc_at code j sp m.machine placed) refl refl (IsAbove-none low)
 
 -- ADD
 pub add : Table → (code : List ℕ) (low j sp rd rs1 rs2 : ℕ) (m : Moment) → Placed code j sp m.machine → slice_get code j ≡ Some (word_of (Reg Add rd rs1 rs2)) → rd < 2 ^ 5 → rs1 < 2 ^ 5 → rs2 < 2 ^ 5 → StepsTo low m (record m { machine = computes rd ((register m.machine rs1 + register m.machine rs2) % 2 ^ 32) m.machine })
 add table code low j sp rd rs1 rs2 m placed at rd_fits rs1_fits rs2_fits =
     let i = Reg Add rd rs1 rs2 in let fits : Fits i = (rd_fits, rs1_fits, rs2_fits) in
-    step_computes code low m j (word_of i) i rd ((register m.machine rs1 + register m.machine rs2) % 2 ^ 32) placed.has at (table.small i fits) (table.decoded i fits) placed.pc refl refl (IsAbove-none low)
+    step_computes code low m j (word_of i) i rd ((register m.machine rs1 + register m.machine rs2) % 2 ^ 32) placed.has at (table.small i fits) (table.decoded i fits) (pc_at code j sp m.machine placed) refl refl (IsAbove-none low)
 
 -- ---- pieces
 
@@ -175,9 +183,11 @@ InsAt-back code j a b has =
     (HasAt-back code j (map word_of a) (map word_of b) (subst (HasAt code j) (map-append word_of a b) has))
 
 -- a word of RAM at the upper end of what may change, or above it, is as before
-pub ram_word-same : (low high a : ℕ) (s s' : MachineState) → high ≤ a → code_base ≤ a → Keeps low high s s' → ram_word s' a ≡ ram_word s a
-ram_word-same low high a s s' above in_ram keeps =
-    ap number_of (bytes_from-same 4 s.ram s'.ram (a - code_base) (λ q l h. keeps.bytes q (inr (omega arith))))
+pub ram_word-same : (low high a : ℕ) (s s' : MachineState) → s.layout ≡ Two → s'.layout ≡ Two → high ≤ a → ram_base Two ≤ a → Keeps low high s s' → ram_word s' a ≡ ram_word s a
+ram_word-same low high a s s' two two' above in_ram keeps =
+    ap (λ (l : Layout). number_of (bytes_from s'.ram (a - ram_base l) 4)) two'
+    ∙ ap number_of (bytes_from-same 4 s.ram s'.ram (a - ram_base Two) (λ q l h. keeps.bytes q (inr (omega arith))))
+    ∙ ap (λ (l : Layout). number_of (bytes_from s.ram (a - ram_base l) 4)) (sym two)
 
 -- a word has been pushed
 pub record Pushed (code : List ℕ) (low j sp v : ℕ) (m : Moment) : Type 0 where
@@ -204,29 +214,32 @@ push_runs table code low j sp h v m small five room placed has =
     let a = sp - 4 in
     let at : (register s1 2 + wrapped (pos 0)) % 2 ^ 32 ≡ a = ap (λ q. (q + wrapped (pos 0)) % 2 ^ 32) p1.pointer ∙ omega arith in
     let s2 = stored a (register s1 5) s1 in
-    let second = step_stores_word code low m1 (j + 1) (word_of i) 2 5 a (pos 0) p1.has few has.1.0 (table.small i fits) (table.decoded i fits) p1.pc at (omega arith) (omega arith) (λ b l u st. omega arith) in
+    let second = step_stores_word code low m1 (j + 1) (word_of i) 2 5 a (pos 0) p1.has (subst (λ (l : Layout). length code ≤ most_words l) (sym p1.layout) few) has.1.0 (table.small i fits) (table.decoded i fits) (pc_at code (j + 1) a s1 p1) at (omega arith) (omega arith) (λ b l u st. omega arith) in
+    let base : ram_base s.layout ≡ ram_base Two = ap ram_base placed.layout in
+    let place : code_place s.layout ≡ code_place Two = ap code_place placed.layout in
     let five1 : register s1 5 ≡ v = register-with_register_other 2 5 v1 (moved_on s) (omega arith) ∙ five in
     let bytes = low_bytes 4 (register s1 5) in
     let len = length-low_bytes 4 (register s1 5) in
-    let keeps2 : Keeps low sp s1 s2 = record { bytes = λ p out. index-with_bytes_from bytes s1.ram (a - code_base) p (outside_word p out) } in
+    let keeps2 : Keeps low sp s1 s2 = record { bytes = λ p out. index-with_bytes_from bytes s1.ram (a - ram_base s.layout) p (outside_word p out) } in
     record {
       after = s2;
       runs = (m1, first, (record m { machine = s2 }, second, refl));
       placed = record {
-        has = HasCode-same code s1 s2 p1.has refl (λ p l. index-with_bytes_from bytes s1.ram (a - code_base) p (inl (omega arith)));
-        pc = next_word code (j + 1) s1.pc few there p1.pc ∙ (let same : code_base + 4 * (j + 1 + 1) ≡ code_base + 4 * (j + 2) = omega arith in same);
+        layout = p1.layout;
+        has = HasCode-same code s1 s2 p1.has refl refl (λ p l. index-with_bytes_from bytes s1.ram (a - ram_base s.layout) (code_place s.layout + p) (inr (omega (arith, base, place, len))));
+        pc = next_word code (j + 1) s1.pc few there p1.pc ∙ (let same : code_base Two + 4 * (j + 1 + 1) ≡ code_base Two + 4 * (j + 2) = omega arith in same);
         pointer = p1.pointer;
         registers = p1.registers;
-        ram = length-with_bytes_from bytes s1.ram (a - code_base) ∙ p1.ram;
+        ram = length-with_bytes_from bytes s1.ram (a - ram_base s.layout) ∙ p1.ram;
       };
-      word = ap (λ w. number_of (bytes_from (with_bytes_from s1.ram (a - code_base) (low_bytes 4 w)) (a - code_base) 4)) five1
-          ∙ word_at-with_bytes_from s1.ram (a - code_base) v small (omega (arith, p1.ram));
+      word = ap (λ w. number_of (bytes_from (with_bytes_from s1.ram (a - ram_base s.layout) (low_bytes 4 w)) (a - ram_base s.layout) 4)) five1
+          ∙ word_at-with_bytes_from s1.ram (a - ram_base s.layout) v small (omega (arith, base, p1.ram));
       keeps = Keeps-then low sp s s1 s2 (Keeps-computes low sp 2 v1 s) keeps2;
     }
   where
-    outside_word : (p : ℕ) → (p + code_base < low) ⊎ (sp ≤ p + code_base) → (p < sp - 4 - code_base) ⊎ (sp - 4 - code_base + 4 ≤ p)
-    outside_word p (inl l) = let space = room.room in let bottom = room.bottom in inl (omega arith)
-    outside_word p (inr r) = let space = room.room in let bottom = room.bottom in inr (omega arith)
+    outside_word : (p : ℕ) → (p + ram_base Two < low) ⊎ (sp ≤ p + ram_base Two) → (p < sp - 4 - ram_base m.machine.layout) ⊎ (sp - 4 - ram_base m.machine.layout + 4 ≤ p)
+    outside_word p (inl l) = let space = room.room in let bottom = room.bottom in let base : ram_base m.machine.layout ≡ ram_base Two = ap ram_base placed.layout in inl (omega (arith, base))
+    outside_word p (inr r) = let space = room.room in let bottom = room.bottom in let base : ram_base m.machine.layout ≡ ram_base Two = ap ram_base placed.layout in inr (omega (arith, base))
 
 -- a word has been popped into x6
 pub record Popped (code : List ℕ) (low j sp v w : ℕ) (m : Moment) : Type 0 where
@@ -247,7 +260,9 @@ pop_runs table code low j sp h v w m word five room placed has =
     let i = Load Lw 6 2 (pos 0) in
     let fits : Fits i = (omega arith, omega arith, (omega (arith, ints), omega (arith, ints))) in
     let at : (register s 2 + wrapped (pos 0)) % 2 ^ 32 ≡ a = ap (λ q. (q + wrapped (pos 0)) % 2 ^ 32) pointer ∙ omega arith in
-    let first = step_loads_word code low m j (word_of i) 6 2 a (pos 0) placed.has has.0 (table.small i fits) (table.decoded i fits) placed.pc at (omega arith) (omega arith) (λ b l u st. omega arith) in
+    let base : ram_base s.layout ≡ ram_base Two = ap ram_base placed.layout in
+    let end : ram_end s.layout ≡ ram_end Two = ap ram_end placed.layout in
+    let first = step_loads_word code low m j (word_of i) 6 2 a (pos 0) placed.has has.0 (table.small i fits) (table.decoded i fits) (pc_at code j a s placed) at (omega (arith, base)) (omega (arith, end)) (λ b l u st. omega arith) in
     let s1 = computes 6 (ram_word s a) s in
     let m1 = record m { machine = s1 } in
     let p1 = Placed-computes code j a 6 (ram_word s a) s few here placed (omega arith) in

@@ -29,7 +29,7 @@ use Rattle.br_machine.specs.Steps.{Moment, Runs}
 use Rattle.br_machine.proofs.Fetch.{within_code}
 use Rattle.br_machine.proofs.Straight.{Runs-append, step_writes_word, HasCode-same}
 use Rattle.br_compile.specs.SumCode.{expression_code, both_code, write_code, command_layer_code, command_code, in_turn_code, commands_code}
-use Rattle.br_compile.proofs.Pieces.{Table, Placed, Room, Keeps, Keeps-refl, Keeps-then, InsAt, InsAt-front, InsAt-back, next_word}
+use Rattle.br_compile.proofs.Pieces.{Table, Placed, pc_at, Room, Keeps, Keeps-refl, Keeps-then, InsAt, InsAt-front, InsAt-back, next_word}
 use Rattle.br_compile.proofs.Computing.{parts_code, length-parts_code, both_run, last_at, smaller, IsComputed, expression_computed}
 
 -- so many steps make these events, and leave the stack pointer and the bytes outside the stack's free part as they were
@@ -49,7 +49,8 @@ Makes is es h =
 
 Placed-moved_on : (code : List ℕ) (low h j sp : ℕ) (s : MachineState) → Room code low sp h → j < length code → Placed code j sp s → Placed code (j + 1) sp (moved_on s)
 Placed-moved_on code low h j sp s room inside placed = record {
-  has = HasCode-same code s (moved_on s) placed.has refl (λ p l. refl);
+  layout = placed.layout;
+  has = HasCode-same code s (moved_on s) placed.has refl refl (λ p l. refl);
   pc = next_word code j s.pc room.few inside placed.pc;
   pointer = placed.pointer;
   registers = placed.registers;
@@ -68,7 +69,7 @@ write_makes table a v is1 is2 ca cv h le1 le2 device code low j sp m room placed
     let mb = record m { machine = s } in
     let small = ca.small in
     let where_to : (register s 6 + wrapped (pos 0)) % 2 ^ 32 ≡ ca.word = ap (λ q. (q + wrapped (pos 0)) % 2 ^ 32) b.first ∙ omega arith in
-    let step = step_writes_word code low mb (j + n) (word_of i) 6 5 ca.word (pos 0) b.placed.has at (table.small i fits) (table.decoded i fits) b.placed.pc where_to device in
+    let step = step_writes_word code low mb (j + n) (word_of i) 6 5 ca.word (pos 0) b.placed.has at (table.small i fits) (table.decoded i fits) (pc_at code (j + n) sp s b.placed) where_to device in
     let s' = moved_on s in
     let end = record m { machine = s'; trace = m.trace ++ event.Write ca.word cv.word ∷ [] } in
     let step' = subst (λ w. Runs low 1 mb (record m { machine = s'; trace = m.trace ++ event.Write ca.word w ∷ [] })) b.second (record m { machine = s'; trace = m.trace ++ event.Write ca.word (register s 5) ∷ [] }, step, refl) in

@@ -1,6 +1,7 @@
 -- What it means that an image implements a program (Integration Verification across Software and
 -- Hardware for a Simple Embedded System, PLDI 2021: the compiler's theorem and the machine's).
 use Rattle.std.specs.Prelude.{◌≡◌, ◌⊎◌, ℕ, ◌+◌, ◌*◌, ◌≤◌, List, [], ◌∷◌, length, Some, slice_get}
+use Rattle.br_words.specs.declared.layout.Layout.{Layout}
 use Rattle.br_bytes.specs.declared.run.Choice.{Choice}
 use Rattle.br_bytes.specs.declared.run.Outcome.TheVariants.{Undefined}
 use Rattle.br_bytes.specs.Memory.{Memory}
@@ -21,12 +22,12 @@ rate = 24
 -- The image follows the program in a call: there are choices of buffers with which the source's call
 -- either is undefined, or does not end for want of a choice and is shown by the machine, its end, its
 -- trace and its memory, in at most (fuel + 1) * 24 * bulk steps.
-abbrev pub Follows : List ℕ → List Func → Func → Entry → List ℕ → Memory → List ℕ → Leftover → ℕ → Type 0
-Follows code fs f entry args m answers j fuel =
+abbrev pub Follows : Layout → List ℕ → List Func → Func → Entry → List ℕ → Memory → List ℕ → Leftover → ℕ → Type 0
+Follows layout code fs f entry args m answers j fuel =
     (choices : List Choice) × AreChoices choices ×
     (let called = call fs f args m answers choices fuel in
     (called.outcome ≡ Undefined)
-    ⊎ Reaches (start code entry.offset args m j) answers called.outcome called.trace called.memory fuel entry.need ((fuel + 1) * rate * bulk fs))
+    ⊎ Reaches (start layout code entry.offset args m j) answers called.outcome called.trace called.memory fuel entry.need ((fuel + 1) * rate * bulk fs))
 
 -- what an entry says of its function
 abbrev pub Describes : List Func → Func → Entry → Type 0
@@ -51,4 +52,4 @@ pub record Implements (i : Image) (fs : List Func) : Type 0 where
       → (m : Memory) → IsInData m
       → (answers : List ℕ) → AreWords answers
       → (j : Leftover) → IsLeftover j
-      → (fuel : ℕ) → Follows i.code fs f entry args m answers j fuel
+      → (fuel : ℕ) → Follows i.layout i.code fs f entry args m answers j fuel

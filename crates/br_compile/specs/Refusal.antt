@@ -1,7 +1,5 @@
 -- Which texts stand for which programs, and what refuses the others.
-use Rattle.std.specs.Prelude.{◌≡◌, ℕ, ◌<◌, ◌≤◌, List, length, Some, ⊤}
-use Rattle.br_base.specs.declared.failure.OrMemory.{OrMemory}
-use Rattle.br_base.specs.declared.failure.OrMemory.TheVariants.{Memory, Fault}
+use Rattle.std.specs.Prelude.{◌≡◌, ℕ, ◌<◌, ◌≤◌, List, length, Some}
 use Rattle.br_sexpr.specs.declared.tree.Tree.{Tree}
 use Rattle.br_sexpr.specs.Reads.{Reads, HasFault}
 use Rattle.br_syntax.specs.declared.program.Func.{Func}
@@ -45,11 +43,6 @@ IsRefusal text (refusal.Text fault) = IsFaultOf text (refusal.Text fault)
 IsRefusal text (refusal.Shape fault) = IsFaultOf text (refusal.Shape fault)
 IsRefusal text (refusal.Names fault) = IsFaultOf text (refusal.Names fault)
 IsRefusal text (refusal.NotYet at) = IsNotYet text at
-
--- what holds of a refusal, where the answer is not want of memory
-abbrev pub IfRefused : OrMemory Refusal → (Refusal → Type 0) → Type 0
-IfRefused Memory P = ⊤
-IfRefused (Fault r) P = P r
 
 -- the refusal is for the lowest fault of shape in the trees
 abbrev pub IsShapeRefusal : List Tree → Refusal → Type 0

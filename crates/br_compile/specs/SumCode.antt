@@ -55,6 +55,7 @@ expression_step (Expr-F.Op o a b) = operation_code o a b
 expression_step (Expr-F.Var x) = None
 expression_step (Expr-F.Load size a) = None
 expression_step (Expr-F.Table size bytes i) = None
+expression_step (Expr-F.Ite test a b) = None
 
 -- an expression into x5, or None where it is not a sum of words
 abbrev pub expression_code : Expr → Option (List Ins)

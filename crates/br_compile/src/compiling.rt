@@ -7,8 +7,11 @@ ghost use Rattle.br_syntax.specs.declared.program.Func.{Func};
 ghost use Rattle.br_measure.specs.Faults.{IsSound};
 ghost use Rattle.br_compile.specs.Unbuilt.{program_unbuilt};
 ghost use Rattle.br_compile.specs.declared.refusal.Refusal.{Refusal};
-ghost use Rattle.br_compile.specs.Refusal.{most_bytes, Accepts, IsRefusal, IsShapeRefusal, IsNameRefusal, IfRefused};
+ghost use Rattle.br_base.specs.Faults.{IfFault};
+ghost use Rattle.br_words.specs.declared.layout.Layout.TheVariants.{Two};
+ghost use Rattle.br_compile.specs.Refusal.{most_bytes, Accepts, IsRefusal, IsShapeRefusal, IsNameRefusal};
 ghost use Rattle.br_compile.specs.Implements.{Implements};
+ghost use Rattle.br_compile.specs.FirstSteps.{ImplementsAtFirst};
 
 use crate::images::image_of;
 use crate::refusal::Refusal;
@@ -27,11 +30,16 @@ pub const MOST_BYTES: usize = 1_048_576;
 /// The image of the program that a source text stands for. It implements that program: whatever the
 /// arguments, the memory, the answers of devices and the leftover contents of registers and stack,
 /// unless a run of the source is undefined, the machine shows a run of the source and nothing else.
+/// After any number of steps, also where the program never ends, it shows the first events of such a
+/// run. The image has the second layout.
+///
 /// An `Err` that is no want of memory is the first thing that refuses the text.
 pub fn compile(alloc: Global, text: &[u8]) -> Result<Image, OrMemory<Refusal>>
     ensures implements { IfOk result (λ i. (fs : List Func) × Accepts text.now fs × Implements i fs) }
+    ensures first_steps { IfOk result (λ i. (fs : List Func) → Accepts text.now fs → ImplementsAtFirst i fs) }
+    ensures layout { IfOk result (λ i. i.layout ≡ Two) }
     ensures unrefused { IfOk result (λ _. (r : Refusal) → IsRefusal text.now r → ⊥) }
-    ensures refused { IfErr result (λ e. IfRefused e (λ r. IsRefusal text.now r)) }
+    ensures refused { IfErr result (λ e. IfFault e (λ r. IsRefusal text.now r)) }
 {
     one_answer();
     sound_programs_have_no_fault();
@@ -52,7 +60,8 @@ fn built_image(alloc: Global, trees: &[Tree], program: &Program) -> Result<Image
     requires trees { Denotes trees.now program.now.funcs }
     requires built { program_unbuilt trees.now ≡ None }
     requires sound { IsSound program.now.funcs }
-    ensures { IfOk result (λ i. Implements i program.now.funcs) }
+    ensures implements { IfOk result (λ i. Implements i program.now.funcs) }
+    ensures layout { IfOk result (λ i. i.layout ≡ Two) }
 {
     match image_of(alloc, program)? {
         Some(image) => Ok(image),
@@ -63,7 +72,7 @@ fn built_image(alloc: Global, trees: &[Tree], program: &Program) -> Result<Image
 fn trees_of(alloc: Global, text: &[u8]) -> Result<Items<Tree>, OrMemory<Refusal>>
     requires { length text.now ≤ most_bytes }
     ensures trees { IfOk result (λ trees. Reads text.now trees) }
-    ensures refused { IfErr result (λ e. IfRefused e (λ r. IsRefusal text.now r)) }
+    ensures refused { IfErr result (λ e. IfFault e (λ r. IsRefusal text.now r)) }
 {
     match read(alloc, text) {
         Ok(trees) => Ok(trees),
@@ -74,7 +83,7 @@ fn trees_of(alloc: Global, text: &[u8]) -> Result<Items<Tree>, OrMemory<Refusal>
 
 fn program_of(alloc: Global, trees: &[Tree]) -> Result<Program, OrMemory<Refusal>>
     ensures denotes { IfOk result (λ p. Denotes trees.now p.funcs) }
-    ensures refused { IfErr result (λ e. IfRefused e (λ r. IsShapeRefusal trees.now r)) }
+    ensures refused { IfErr result (λ e. IfFault e (λ r. IsShapeRefusal trees.now r)) }
 {
     match from_tree(alloc, trees) {
         Ok(program) => Ok(program),
@@ -86,7 +95,7 @@ fn program_of(alloc: Global, trees: &[Tree]) -> Result<Program, OrMemory<Refusal
 fn checked_of(alloc: Global, program: Program) -> Result<Checked, OrMemory<Refusal>>
     ensures kept { IfOk result (λ c. c ≡ program.funcs) }
     ensures sound { IfOk result (λ c. IsSound c) }
-    ensures refused { IfErr result (λ e. IfRefused e (λ r. IsNameRefusal program.funcs r)) }
+    ensures refused { IfErr result (λ e. IfFault e (λ r. IsNameRefusal program.funcs r)) }
 {
     match check(alloc, program) {
         Ok(checked) => Ok(checked),

@@ -3,6 +3,7 @@
 ghost use Rattle.std.specs.Prelude.{◌≡◌, ℕ, ◌⊎◌, List};
 ghost use Rattle.br_compile.specs.declared.refusal.Refusal.{Refusal};
 ghost use Rattle.br_compile.specs.Refusal.{Accepts, IsFaultOf};
+ghost use Rattle.br_words.specs.declared.layout.Layout.{Layout};
 ghost use Rattle.br_bytes.specs.Memory.{Memory};
 ghost use Rattle.br_syntax.specs.declared.program.Func.{Func};
 ghost use Rattle.br_image.specs.declared.images.Entry.{Entry};
@@ -18,8 +19,8 @@ use br_syntax::one_meaning;
 /// n units of fuel is undefined, none of the first n steps of an image that follows it traps, and
 /// the events of these steps are the first events of a source run.
 pub fn first_steps_show_a_run()
-    ensures { (code : List ℕ) (fs : List Func) (f : Func) (entry : Entry) (args : List ℕ) (m : Memory) (answers : List ℕ) (j : Leftover) (n : ℕ) →
-        Follows code fs f entry args m answers j n → FollowsAtFirst code fs f entry args m answers j n }
+    ensures { (layout : Layout) (code : List ℕ) (fs : List Func) (f : Func) (entry : Entry) (args : List ℕ) (m : Memory) (answers : List ℕ) (j : Leftover) (n : ℕ) →
+        Follows layout code fs f entry args m answers j n → FollowsAtFirst layout code fs f entry args m answers j n }
 {}
 
 /// Each text is accepted as one program or has one fault, and never both.

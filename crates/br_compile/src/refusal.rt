@@ -12,13 +12,13 @@ pub enum Refusal {
     #[error("the text has more than 1,048,576 bytes")]
     InputTooLong,
     /// It is no sequence of names, numbers and lists.
-    #[error("{0:?}")]
+    #[error(transparent)]
     Text(TextFault),
     /// Its trees are not all functions.
-    #[error("{0:?}")]
+    #[error(transparent)]
     Shape(ShapeFault),
     /// A name is at fault, or the program is too large, calls itself or needs too much stack.
-    #[error("{0:?}")]
+    #[error(transparent)]
     Names(NameFault),
     /// A form that the compiler does not build yet begins at this offset.
     #[error("a form that is not built yet, at offset {0}")]

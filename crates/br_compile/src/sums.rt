@@ -11,7 +11,7 @@ use br_rv32im::{ImmOp, Ins, LoadOp, RegOp, StoreOp, UpperOp, encode};
 use br_syntax::Expr;
 use br_words::BinOp;
 
-/// Puts one instruction behind the code.
+/// Puts one instruction after the code.
 pub(crate) fn put(code: &mut Vec<u32>, instruction: Ins) -> Result<(), NoMemory>
     requires { Fits instruction }
     ensures { OnOk result (code.new.items ≡ code.old.items ++ word_of instruction ∷ []) }

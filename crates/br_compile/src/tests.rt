@@ -1,5 +1,6 @@
 use crate::{Refusal, compile};
 use br_base::OrMemory;
+use br_words::Layout;
 use std::alloc::Global;
 use std::test::Fail;
 
@@ -36,6 +37,7 @@ fn sum_is_written(rt: HostRuntime) -> Result<(), Fail> {
     };
     assert_eq!(rt; entry.name.bytes(), b"main".as_slice());
     assert_eq!(rt; (entry.args, entry.results, entry.offset), (0, 0, 0));
+    assert_eq!(rt; image.layout, Layout::Two);
     Ok(())
 }
 
@@ -43,6 +45,7 @@ fn sum_is_written(rt: HostRuntime) -> Result<(), Fail> {
 fn empty_text(rt: HostRuntime) -> Result<(), Fail> {
     let image = compile(rt.alloc(), b"")?;
     assert!(rt; image.entries.is_empty() && image.code.is_empty());
+    assert_eq!(rt; image.layout, Layout::Two);
     Ok(())
 }
 
@@ -56,7 +59,7 @@ fn not_yet(alloc: Global, text: &[u8]) -> Option<u32> {
 
 #[test]
 fn forms_that_are_not_built(rt: HostRuntime) {
-    let cases: [(&[u8], u32); 8] = [
+    let cases: [(&[u8], u32); 9] = [
         (b"(fn main () () (skip))", 15),
         (b" (fn f (a) ())", 1),
         (b"(fn f () (r) (set r 1))", 0),
@@ -64,6 +67,10 @@ fn forms_that_are_not_built(rt: HostRuntime) {
         (b"(fn f () () (interact (x) MMIOREAD 0x10012000))", 12),
         (
             b"(fn f () () (interact () MMIOWRITE 0x10012000 (sub 1 2)))",
+            46,
+        ),
+        (
+            b"(fn f () () (interact () MMIOWRITE 0x10012000 (ite 1 2 3)))",
             46,
         ),
         (b"(fn f () () (interact () MMIOWRITE x (sub 1 2)))", 35),

@@ -3,7 +3,7 @@ use Rattle.std.proofs.Common.{◌≡◌, ℕ, ◌<◌, List, [], ◌∷◌, leng
 use Rattle.std.proofs.lemmas.Option.{same_Some, none-some}
 use Rattle.br_sexpr.specs.declared.tree.TextFault.{TextFault}
 use Rattle.br_sexpr.specs.Token.{Token, opens, closes, names, numbers, misspells, strays}
-use Rattle.br_sexpr.specs.Fault.{open_behind, wrong_where, unclosed, IsFault}
+use Rattle.br_sexpr.specs.Faults.{open_behind, wrong_where, unclosed, IsFault}
 use Rattle.br_sexpr.specs.Progress.{or_else, fault_within}
 
 cases_fault : (o : Option TextFault) → (o ≡ None) ⊎ ((f : TextFault) × (o ≡ Some f))

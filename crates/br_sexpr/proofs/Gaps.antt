@@ -10,7 +10,7 @@ use Rattle.br_sexpr.specs.Number.{number_of}
 use Rattle.br_sexpr.specs.Layout.{Piece, blank, comment, opening, closing, run, stray, spelling, stays_in_line, IsPiece, stops, EndsBefore, IsLayout}
 use Rattle.br_sexpr.specs.Token.{Token, opens, closes, names, numbers, misspells, strays, number_token, token_of_run, tokens_at, tokens_of}
 use Rattle.br_sexpr.specs.Between.{is_gap, Alternates, offset_of}
-use Rattle.br_sexpr.specs.Fault.{wrong_where, wrong_close, wrong_at, IsFault}
+use Rattle.br_sexpr.specs.Faults.{wrong_where, wrong_close, wrong_at, IsFault}
 use Rattle.br_sexpr.specs.Reads.{HasFault}
 use Rattle.br_sexpr.proofs.Layouts.{layout-is}
 

@@ -6,7 +6,8 @@ use Rattle.br_base.specs.declared.failure.OrMemory.TheVariants.{Memory, Fault}
 use Rattle.br_sexpr.specs.declared.tree.Tree.{Tree}
 use Rattle.br_sexpr.specs.declared.tree.TextFault.{TextFault}
 use Rattle.br_sexpr.specs.Canonical.{canonical, bare, AreSameUpToOffsets, ArePrintable}
-use Rattle.br_sexpr.specs.Reads.{Reads, HasFault, IfFault}
+use Rattle.br_base.specs.Faults.{IfFault}
+use Rattle.br_sexpr.specs.Reads.{Reads, HasFault}
 use Rattle.br_sexpr.specs.Progress.{outside, pieces, tokens_from, Answers}
 use Rattle.br_sexpr.proofs.Layouts.{layout}
 use Rattle.br_sexpr.proofs.OneAnswer.{not-both, reads-one}

@@ -7,7 +7,7 @@ use Rattle.br_sexpr.specs.declared.reading.OpenList.{OpenList}
 use Rattle.br_sexpr.specs.declared.reading.Reader.{Reader}
 use Rattle.br_sexpr.specs.Token.{Token, opens, closes, token_of_run}
 use Rattle.br_sexpr.specs.Forest.{tree_tokens, forest_tokens, tree_height}
-use Rattle.br_sexpr.specs.Fault.{but_last, wrong_close}
+use Rattle.br_sexpr.specs.Faults.{but_last, wrong_close}
 use Rattle.br_sexpr.specs.Progress.{Opened, opened, innermost, Ordered, IsOrdered, or_else, fault_within, seen_in, seen, places, FitsIn, Fits, Took, IsWord}
 use Rattle.br_sexpr.specs.Number.{number_of}
 use Rattle.br_base.specs.Name.{is_name}

@@ -10,7 +10,7 @@ use Rattle.br_sexpr.specs.declared.tree.Tree.TheViews as view
 use Rattle.br_sexpr.specs.declared.tree.Tree.TheVariants.{rolls-Name, rolls-Number, rolls-List}
 use Rattle.br_sexpr.specs.declared.tree.Tree.TheFolds.{map-Tree, ind-Tree}
 use Rattle.br_sexpr.specs.Token.{Token, opens, closes, names, numbers, misspells, strays, kept}
-use Rattle.br_sexpr.specs.Fault.{wrong_close, but_last}
+use Rattle.br_sexpr.specs.Faults.{wrong_close, but_last}
 use Rattle.br_sexpr.specs.Forest.{tree_tokens, forest_tokens, tree_height, forest_height}
 use Rattle.br_sexpr.specs.Progress.{or_else, fault_within}
 use Rattle.br_sexpr.proofs.ForestLemmas.{tokens-name, tokens-number, tokens-list, height-list}

@@ -8,7 +8,7 @@ use Rattle.br_sexpr.specs.declared.tree.TextFault.{TextFault}
 use Rattle.br_sexpr.specs.declared.piece.Kind.{Kind}
 use Rattle.br_sexpr.specs.declared.reading.Reader.{Reader}
 use Rattle.br_sexpr.specs.Token.{kept}
-use Rattle.br_sexpr.specs.Fault.{unclosed}
+use Rattle.br_sexpr.specs.Faults.{unclosed}
 use Rattle.br_sexpr.specs.Forest.{forest_tokens}
 use Rattle.br_sexpr.specs.Progress.{fault_within, tokens_from, token_as, seen, places, FitsIn, Fits, IsOrdered, Took, Refuses, Ends, Answers}
 use Rattle.br_sexpr.proofs.Steps.{Holds, Holds-is, seen-holds, to-Fits, from-Fits}

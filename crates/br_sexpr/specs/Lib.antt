@@ -1,6 +1,6 @@
 pub mod Between
 pub mod Canonical
-pub mod Fault
+pub mod Faults
 pub mod Forest
 pub mod Layout
 pub mod Number

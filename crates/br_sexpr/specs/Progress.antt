@@ -13,7 +13,7 @@ use Rattle.br_sexpr.specs.declared.reading.OpenList.{OpenList}
 use Rattle.br_sexpr.specs.declared.reading.Reader.{Reader}
 use Rattle.br_sexpr.specs.Layout.{Piece, blank, comment, opening, closing, run, stray, is_blank, stays_in_line}
 use Rattle.br_sexpr.specs.Token.{Token, opens, closes, strays, token_of_run, tokens_of, kept}
-use Rattle.br_sexpr.specs.Fault.{open_behind, wrong_where, unclosed}
+use Rattle.br_sexpr.specs.Faults.{open_behind, wrong_where, unclosed}
 use Rattle.br_sexpr.specs.Forest.{tree_tokens, forest_tokens, tree_height, forest_height}
 
 -- the piece that the byte before has begun, if it may go on

@@ -1,12 +1,10 @@
 -- What a text stands for.
-use Rattle.std.specs.Prelude.{◌≡◌, ℕ, ◌≤◌, List, map, ⊤}
-use Rattle.br_base.specs.declared.failure.OrMemory.{OrMemory}
-use Rattle.br_base.specs.declared.failure.OrMemory.TheVariants.{Memory, Fault}
+use Rattle.std.specs.Prelude.{◌≡◌, ℕ, ◌≤◌, List, map}
 use Rattle.br_sexpr.specs.declared.tree.Tree.{Tree}
 use Rattle.br_sexpr.specs.declared.tree.TextFault.{TextFault}
 use Rattle.br_sexpr.specs.Layout.{Piece, IsLayout}
 use Rattle.br_sexpr.specs.Token.{kept, tokens_of}
-use Rattle.br_sexpr.specs.Fault.{IsFault}
+use Rattle.br_sexpr.specs.Faults.{IsFault}
 use Rattle.br_sexpr.specs.Forest.{forest_tokens, forest_height}
 
 -- The text is blanks, comments and tokens, the tokens are those of the trees in order, and no list stands in 256 others.
@@ -21,8 +19,3 @@ pub record HasFault (text : List ℕ) (f : TextFault) : Type 0 where
   pub pieces : List Piece
   pub layout : IsLayout pieces text
   pub fault : IsFault (tokens_of 0 pieces) f
-
--- the fault of a refusal that is not for want of memory
-abbrev pub IfFault : OrMemory TextFault → (TextFault → Type 0) → Type 0
-IfFault Memory P = ⊤
-IfFault (Fault f) P = P f

@@ -4,7 +4,7 @@ ghost use Rattle.std.specs.Prelude.{◌≡◌, ℕ, ◌≤◌, ◌⊎◌, List, 
 ghost use Rattle.br_sexpr.specs.declared.tree.Tree.{Tree};
 ghost use Rattle.br_sexpr.specs.declared.tree.TextFault.{TextFault};
 ghost use Rattle.br_sexpr.specs.Between.{Alternates, offset_of};
-ghost use Rattle.br_sexpr.specs.Fault.{wrong_at};
+ghost use Rattle.br_sexpr.specs.Faults.{wrong_at};
 ghost use Rattle.br_sexpr.specs.Layout.{Piece, IsLayout};
 ghost use Rattle.br_sexpr.specs.Reads.{Reads, HasFault};
 ghost use Rattle.br_sexpr.specs.Token.{Token, tokens_of};

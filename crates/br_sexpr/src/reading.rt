@@ -5,7 +5,8 @@ ghost use Rattle.br_base.specs.declared.failure.OrMemory.{OrMemory};
 ghost use Rattle.br_sexpr.specs.declared.tree.Tree.{Tree};
 ghost use Rattle.br_sexpr.specs.declared.tree.TextFault.{TextFault};
 ghost use Rattle.br_sexpr.specs.Canonical.{canonical, AreSameUpToOffsets, ArePrintable};
-ghost use Rattle.br_sexpr.specs.Reads.{Reads, HasFault, IfFault};
+ghost use Rattle.br_base.specs.Faults.{IfFault};
+ghost use Rattle.br_sexpr.specs.Reads.{Reads, HasFault};
 ghost use Rattle.br_sexpr.specs.Token.{token_of_run, opens, closes};
 ghost use Rattle.br_sexpr.specs.Progress.{tokens_from, token_as, Answers, Refuses, IsWord};
 
@@ -69,7 +70,7 @@ fn trees_of(alloc: Global, bytes: &[u8]) -> Result<Items<Tree>, OrMemory<TextFau
 }
 
 impl Reader {
-    ghost use Rattle.br_sexpr.specs.Fault.{unclosed};
+    ghost use Rattle.br_sexpr.specs.Faults.{unclosed};
     ghost use Rattle.br_sexpr.specs.Progress.{IsOrdered, Took, Ends, places};
 
     fn new(alloc: Global) -> Reader

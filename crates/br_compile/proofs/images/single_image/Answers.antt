@@ -21,12 +21,12 @@ invariant_of-result c =
           (c.words-code.ensures.value ∙ whole.2) (subst (All (λ w. w < 2 ^ 32)) (sym c.words-code.ensures.value) c.words-code.ensures.words);
     }
 
-pub returns : goal.returns
-returns c =
+pub returns-clause-implements : goal.returns-clause-implements
+returns-clause-implements c =
     let f = c.args.f.now in
     let table : Table = record { small = c.instructions_and_words_match.ensures.word; decoded = c.instructions_and_words_match.ensures.decoded } in
     let e : Entry = record { name = c.in_ok-name.name; args = 0; results = 0; offset = 0; need = c.args.need } in
     let entry : IsEntryOf f e = record { name = c.in_ok-name.ensures; args = refl; results = refl; offset = refl; need = c.requires.need } in
     let whole = whole_parts c.args.code (commands_code f.body) c.requires.code in
-    implements_one table _ f e whole.0 c.requires.args c.requires.results whole.1 c.requires.small
+    implements_one table _ f e whole.0 c.requires.args c.requires.results whole.1 c.requires.small refl
     (alone c.new-entries.result c.push.new.self e c.new-entries.ensures c.in_ok-push.ensures.ok) (c.words-code.ensures.value ∙ whole.2) entry
