@@ -9,6 +9,6 @@ pub unreachable-requires : goal.unreachable-requires
 unreachable-requires c =
     let code = program_built c.args.trees.now c.args.program.now.funcs c.requires.trees c.requires.built c.requires.sound.names in
     let fs = c.args.program.now.funcs in
-    let none : program_code fs ≡ None = subst (λ o. MatchOption o (program_code fs ≡ None) (λ i. Implements i fs)) c.in-None.is c.in_ok-image.ensures in
+    let none : program_code fs ≡ None = subst (λ o. MatchOption o (program_code fs ≡ None) (λ i. Implements i fs)) c.in-None.is c.in_ok-image.ensures.implements in
     let both : Some code.0 ≡ None = sym code.1 ∙ none in
     absurd (cc)

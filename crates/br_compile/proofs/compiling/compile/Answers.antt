@@ -19,7 +19,9 @@ returns-clause-first_steps c = λ fs accepts.
     let sound : IsSound gs = subst IsSound c.in_ok-checked.ensures.kept c.in_ok-checked.ensures.sound in
     let accepted : Accepts c.args.text.now gs = ((small, trees, c.in_ok-trees.ensures.trees, denotes), sound) in
     let same : gs ≡ fs = one_accepted laws c.args.text.now gs fs accepted accepts in
-    ?
+    let image = c.in_ok-built_image-in-None.field-0 in
+    let is : c.program.result.now.funcs ≡ gs = c.program.ensures.functions ∙ c.in_ok-checked.ensures.kept in
+    subst (ImplementsAtFirst image) same (implements_at_first image gs (subst (Implements image) is c.in_ok-built_image-in-None.ensures.implements))
 
 pub returns-clause-unrefused : goal.returns-clause-unrefused
 returns-clause-unrefused c =
