@@ -91,7 +91,7 @@ pub loop-is : (forgets : Forgets) (call : Callee) (first : List Stmt) (test : Co
 loop-is forgets call first test last s =
     ap (λ c. run forgets call c s) (sym (rolls-Loop first test last)) ∙ ap (λ f. f s) (fold-roll-Stmt (State → Run) (statement_step forgets call) (Stmt-F.Loop first test last))
 
-then-then : (r : Run) (f g : State → Run) → then_do (then_do r f) g ≡ then_do r (λ t. then_do (f t) g)
+pub then-then : (r : Run) (f g : State → Run) → then_do (then_do r f) g ≡ then_do r (λ t. then_do (f t) g)
 then-then (Goes t) f g = refl
 then-then (Ends end t) f g = refl
 

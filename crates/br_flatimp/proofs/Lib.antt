@@ -10,3 +10,6 @@ pub mod Tests
 pub mod Leaves
 pub mod Widens
 pub mod Given
+pub mod Lists
+pub mod Skips
+pub mod LiveTables

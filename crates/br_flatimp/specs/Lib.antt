@@ -8,3 +8,4 @@ pub mod Missed
 pub mod Sizes
 pub mod Matches
 pub mod Renaming
+pub mod LiveTables

@@ -43,6 +43,8 @@ pub record Moment : Type 0 where
   pub after : Names
   -- the names that are live after its write: a buffer's name is written before its body runs
   pub after_write : Names
+  -- the names that are live at a loop's test
+  pub test : Names
 
 -- a statement, as a function of what is live after it
 pub record Live : Type 0 where
@@ -115,6 +117,11 @@ abbrev pub after_write : Stmt-F Live → Names → Names
 after_write (Stmt-F.Stackalloc x n body) after = entry body after
 after_write y after = after
 
+-- what is live at a loop's test
+abbrev pub tested : Stmt-F Live → Names → Names
+tested (Stmt-F.Loop first test last) after = at_test first test last after
+tested y after = nothing
+
 abbrev pub inner_moments : Stmt-F Live → Names → List Moment
 inner_moments (Stmt-F.Stackalloc x n body) after = moments body after
 inner_moments (Stmt-F.If test first second) after = moments first after ++ moments second after
@@ -139,6 +146,7 @@ moment y after = record {
   is_copy = is_copy y;
   after = after;
   after_write = after_write y after;
+  test = tested y after;
 }
 
 abbrev pub live_step : Stmt-F Live → Live

@@ -1,11 +1,13 @@
 // What holds of flat programs. These functions do nothing: each contract is a law of the definitions.
 
-ghost use Rattle.std.specs.Prelude.{ℕ, List, map};
+ghost use Rattle.std.specs.Prelude.{◌≡◌, ℕ, List, ◌++◌, map};
 ghost use Rattle.std.specs.List.{AllByRecursion};
 ghost use Rattle.br_flatimp.specs.declared.program.Cond.{Cond};
 ghost use Rattle.br_flatimp.specs.declared.program.FlatFunc.{FlatFunc};
 ghost use Rattle.br_flatimp.specs.declared.program.Stmt.{Stmt};
 ghost use Rattle.br_flatimp.specs.Liveness.{Within, at_test, before, before_all, entry, is_in, live, moments, union};
+ghost use Rattle.br_bytes.specs.Runs.{then_do};
+ghost use Rattle.br_flatimp.specs.LiveTables.{KeepsRules, Table, live_table};
 ghost use Rattle.br_flatimp.specs.Matches.{CalleesMatch, Matches, SameOutside};
 ghost use Rattle.br_flatimp.specs.Parts.{test_names};
 ghost use Rattle.br_flatimp.specs.Refines.{Meaning, Refines, forgetting, meaning};
@@ -19,14 +21,33 @@ pub fn refines_composes()
     ensures composes { (r q p : Meaning) → Refines r q → Refines q p → Refines r p }
 {}
 
-/// What is live at a loop's test keeps its rule, and is within every set that keeps it.
+/// What is live is the least table that keeps the rules of liveness: after each statement, by its
+/// number in preorder, and at the test of each loop, by the loop's number.
 pub fn liveness_is_least()
-    ensures keeps { (first : List Stmt) (test : Cond) (last : List Stmt) (after : Names) →
+    ensures keeps { (f : FlatFunc) → KeepsRules f (live_table f) }
+    ensures least { (f : FlatFunc) (t : Table) → KeepsRules f t → (n : ℕ) →
+        Within ((live_table f).after n) (t.after n) × Within ((live_table f).test n) (t.test n) }
+{}
+
+/// What is live at a loop's test holds the names of the test, what is live after the loop, and what is
+/// live before the last part with the first part and the test after it; and it is within every set
+/// that does. More that is live after a statement is no less that is live before it.
+pub fn loops_take_one_turn()
+    ensures holds { (first : List Stmt) (test : Cond) (last : List Stmt) (after : Names) →
         Within (union (is_in (test_names test)) (union after (before_all last (before_all first (at_test (map live first) test (map live last) after))))) (at_test (map live first) test (map live last) after) }
     ensures least { (first : List Stmt) (test : Cond) (last : List Stmt) (after set : Names) →
         Within (union (is_in (test_names test)) (union after (before_all last (before_all first set)))) set →
         Within (at_test (map live first) test (map live last) after) set }
     ensures grows { (s : Stmt) (small large : Names) → Within small large → Within (before s small) (before s large) }
+{}
+
+/// Statements in turn are their first part and then the rest, in runs and in what is live.
+pub fn lists_have_two_parts()
+    ensures run { (forgets : Forgets) (call : Callee) (xs ys : List Stmt) (s : State) →
+        run_all forgets call (xs ++ ys) s ≡ then_do (run_all forgets call xs s) (run_all forgets call ys) }
+    ensures before { (xs ys : List Stmt) (after : Names) → before_all (xs ++ ys) after ≡ before_all xs (before_all ys after) }
+    ensures moments { (xs ys : List Stmt) (after : Names) →
+        moments (map live (xs ++ ys)) after ≡ moments (map live xs) (before_all ys after) ++ moments (map live ys) after }
 {}
 
 /// Two states that agree on what is live before a statement, or before statements in turn, are taken

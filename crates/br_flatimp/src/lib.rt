@@ -15,8 +15,8 @@ mod run_laws;
 
 pub use forms::well_formed;
 pub use laws::{
-    forgetting_refines, liveness_is_least, refines_composes, renamed_programs_refine,
-    runs_agree_on_live_names,
+    forgetting_refines, lists_have_two_parts, liveness_is_least, loops_take_one_turn,
+    refines_composes, renamed_programs_refine, runs_agree_on_live_names,
 };
 pub use program::{Cond, FlatFunc, FlatProgram, Operand, Proposal, Rel, Stmt};
 pub use run_laws::{bounds_do_not_show, longer_lists_stay, more_fuel_goes_on, runs_only_take};

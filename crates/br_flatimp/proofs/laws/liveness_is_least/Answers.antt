@@ -1,5 +1,5 @@
-use Rattle.br_flatimp.proofs.Live.{test-holds, test-least, grows-before}
+use Rattle.br_flatimp.proofs.LiveTables.{table-keeps, table-least}
 use Rattle.br_flatimp.proofs.laws.liveness_is_least.Goals as goal
 
 pub returns : goal.returns
-returns c = record { keeps = test-holds; least = test-least; grows = grows-before }
+returns c = record { keeps = table-keeps; least = table-least }
