@@ -19,7 +19,7 @@ use Rattle.br_judge.proofs.Sets.{times_zero-from, times_suc-from}
 use Rattle.br_judge.proofs.Turns.{asking_zero, asking_suc, reading_zero, reading_suc}
 
 -- a set that is not empty
-abbrev HasList : Language → Type 0
+abbrev pub HasList : Language → Type 0
 HasList L = (es : List Event) × L es
 
 has_joined : (A K : Piece) (o : Option ℕ) → HasList (A o) → HasList (K o) → HasList (joined A K)
@@ -116,7 +116,7 @@ has_after Length None = has_polls
 has_after (Word left f) (Some w) = has_reading left (with_word w f)
 has_after (Word left f) None = has_polls
 
-ahead : (p : Place) → (p ≡ place.Outside) ⊎ HasList (MayFollow p)
+pub ahead : (p : Place) → (p ≡ place.Outside) ⊎ HasList (MayFollow p)
 ahead place.Start =
     let write : Event = Write EN (Rattle.std.proofs.Common.bit_or 0 (2 ^ 23)) in
     let s = has_event (Read EN 0) (event write ▸ asking 200) (has_event write (asking 200) (has_asking 200)) in

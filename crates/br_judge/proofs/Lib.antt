@@ -8,3 +8,4 @@ pub mod Frames
 pub mod Polls
 pub mod Boots
 pub mod Ahead
+pub mod Leading

@@ -1,3 +1,4 @@
 pub mod Languages
 pub mod Good
 pub mod Places
+pub mod Steps

@@ -3,10 +3,12 @@
 
 mod exchange;
 mod judge;
+mod laws;
 mod place;
 mod word;
 
 pub use judge::Judge;
+pub use laws::{events_lead_on, places_stand};
 
 #[cfg(test)]
 mod tests;
