@@ -1,1 +1,3 @@
 pub mod Reaches
+pub mod Code
+pub mod Laid

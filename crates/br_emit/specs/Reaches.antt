@@ -1,5 +1,5 @@
 -- What the machine has to do so that it shows the end of a call: its outcome, its trace and its memory.
-use Rattle.std.specs.Prelude.{◌≡◌, ℕ, ◌+◌, ◌-◌, ◌<◌, ◌≤◌, List, [], length, slice_get, Option, Some, None, unwrap_or}
+use Rattle.std.specs.Prelude.{◌≡◌, ℕ, ◌+◌, ◌-◌, ◌<◌, ◌≤◌, List, [], slice_get, Option, Some, None, unwrap_or}
 use Rattle.std.specs.FinMap as map
 use Rattle.br_bytes.specs.declared.run.Event.{Event}
 use Rattle.br_bytes.specs.declared.run.Outcome.{Outcome}

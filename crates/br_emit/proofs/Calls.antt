@@ -1,0 +1,229 @@
+-- Calls, in code: by induction on how deep they are followed.
+use Rattle.std.proofs.Common.{◌≡◌, ◌≢◌, ◌⊎◌, inl, inr, ℕ, ◌+◌, ◌-◌, ◌*◌, ◌/◌, ◌%◌, ◌^◌, ◌<◌, ◌≤◌, List, [], ◌∷◌, ◌++◌, length, Option, Some, None, Bool, negsuc, refl, sym, ap, ◌∙◌, arith}
+use Rattle.std.specs.Prelude.{slice_get, slice_index, IfSome}
+use Rattle.std.specs.List.{AllByRecursion}
+use Rattle.br_words.specs.Words.{IsWord, wrapped}
+use Rattle.br_bytes.specs.declared.run.Event.{Event}
+use Rattle.br_flatimp.specs.declared.program.FlatFunc.{FlatFunc}
+use Rattle.br_flatimp.specs.Runs.{Forgets, function_of}
+use Rattle.br_rv32im.specs.declared.instruction.Ins.TheVariants.{Upper, Jalr, Imm}
+use Rattle.br_rv32im.specs.declared.instruction.ImmOp.TheVariants.{Addi}
+use Rattle.br_rv32im.specs.declared.instruction.UpperOp.TheVariants.{Lui}
+use Rattle.br_machine.specs.State.{MachineState, IsMachine, register}
+use Rattle.br_machine.specs.Traps.{trap_of}
+use Rattle.br_machine.specs.Step.{step}
+use Rattle.br_machine.specs.Steps.{Runs}
+use Rattle.br_emit.specs.Code.{Does, Targets, high_part, low_part, call_items, registers, changes, save_items, restore_items, move_items, exit_items}
+pub use Rattle.br_emit.specs.Laid.{Function, may_call}
+use Rattle.br_emit.proofs.Stepping.{machine, at, Good, Table, put, reads, Good-put, reads-put_same, reads-put_other, step_sets, step_goes, IsAbove-none}
+use Rattle.br_emit.proofs.Pieces.{Ground, Placed, placed-front, placed-back, runs-append, runs_one, Ready}
+use Rattle.br_emit.proofs.Setting.{ready_runs, good_of}
+use Rattle.br_emit.proofs.Operations.{parts_value}
+use Rattle.br_emit.proofs.Jumping.{aligned}
+use Rattle.br_emit.proofs.Frames.{move_points, word_at, Stored, saves_run, restores_run, exit_run, NoneOf, Rises}
+use Rattle.br_emit.proofs.Statements.{CallSimulates}
+
+-- ---- programs in code
+
+-- a program in code
+pub record World : Type 0 where
+  pub code : List ℕ
+  pub low : ℕ
+  pub total : ℕ
+  pub table : Table
+  pub makes : (s : MachineState) (next : Option ℕ) → IsMachine s → IfSome next IsWord → IsMachine (step s next).0
+  pub fs : List FlatFunc
+  pub targets : Targets
+  pub forgets : Forgets
+  pub called : ℕ → Bool
+  pub need : ℕ → ℕ
+  pub limit : ℕ → ℕ
+  pub bottom : 0x80200000 ≤ low
+  pub functions : (n : ℕ) (f : FlatFunc) → slice_get fs n ≡ Some f → Function code fs targets forgets called need limit total n f
+
+-- what the body of a function rests on, with the stack pointer at a place
+abbrev pub ground : (w : World) (n : ℕ) (f : FlatFunc) (d sp : ℕ) → w.low ≤ sp → sp ≤ 0x80300000 → sp % 4 ≡ 0 → Ground
+ground w n f d sp under top aligned = record {
+  code = w.code;
+  low = w.low;
+  sp = sp;
+  depth = d;
+  touched = changes w.forgets f;
+  called = may_call f w.need (w.limit n);
+  total = w.total;
+  table = w.table;
+  makes = w.makes;
+  bottom = w.bottom;
+  under = under;
+  top = top;
+  aligned = aligned;
+}
+
+-- calls from the function numbered n are followed d deep
+abbrev pub CallsAt : World → ℕ → Type 0
+CallsAt w d =
+    (n : ℕ) (f : FlatFunc) (sp : ℕ) (under : w.low ≤ sp) (top : sp ≤ 0x80300000) (four : sp % 4 ≡ 0) → w.low + w.limit n ≤ sp
+    → slice_get w.fs n ≡ Some f
+    → CallSimulates (ground w n f d sp under top four) w.targets w.forgets (function_of w.forgets w.fs d) w.fs
+
+-- ---- the jump to a function
+
+pub record Leaps (g : Ground) (j to : ℕ) (registers ram answers : List ℕ) (trace : List Event) : Type 0 where
+  pub registers' : List ℕ
+  pub good : Good g.code registers' ram
+  pub runs : Runs g.low 2 (at g.code j registers ram answers trace) (at g.code to registers' ram answers trace)
+  pub back : reads registers' 1 ≡ 0x80300000 + 4 * (j + 2)
+  pub others : (y : ℕ) → y ≢ 1 → reads registers' y ≡ reads registers y
+
+pub leaps : (g : Ground) (j to target : ℕ) (registers ram answers : List ℕ) (trace : List Event)
+    → Good g.code registers ram → Placed g.code j (call_items target) → target ≡ 0x80300000 + 4 * to → target < 2 ^ 32 → j < 1048576
+    → Leaps g j to registers ram answers trace
+leaps g j to target registers ram answers trace good placed is small near =
+    let all = good.all in
+    let x = high_part target * 4096 in
+    let first = step_sets g.table g.code registers ram answers trace g.low j (Upper Lui 1 (high_part target)) 1 x good placed.0 placed.1 refl refl (IsAbove-none g.low) in
+    let registers1 = put 1 x registers in
+    let good1 = Good-put g.code registers ram 1 x good in
+    let one : reads registers1 1 ≡ x = reads-put_same 1 x registers (omega arith) (omega arith) in
+    let v = (0x80300000 + 4 * (j + 1) + 4) % 2 ^ 32 in
+    let t = (register (machine g.code (j + 1) registers1 ram) 1 + wrapped (low_part target)) % 2 ^ 32 / 2 * 2 in
+    let fits = placed.1 in
+    let value : (x + wrapped (low_part target)) % 2 ^ 32 ≡ target = parts_value target fits.1 in
+    let goes : t ≡ 0x80300000 + 4 * to = ap (λ q. (q + wrapped (low_part target)) % 2 ^ 32 / 2 * 2) one ∙ ap (λ q. q / 2 * 2) (value ∙ is) ∙ even to in
+    let fine : trap_of (Jalr 1 1 (low_part target)) (machine g.code (j + 1) registers1 ram) ≡ None = aligned t (ap (λ q. q % 4) goes ∙ multiple to) in
+    let second = step_goes g.table g.code registers1 ram answers trace g.low (j + 1) to (Jalr 1 1 (low_part target)) 1 v t good1 placed.2.0 placed.2.1 fine refl goes (IsAbove-none g.low) in
+    record {
+      registers' = put 1 v registers1;
+      good = Good-put g.code registers1 ram 1 v good1;
+      runs = (at g.code (j + 1) registers1 ram answers trace, first, (at g.code to (put 1 v registers1) ram answers trace, second, refl));
+      back = reads-put_same 1 v registers1 (omega arith) (omega (arith, good1.all)) ∙ omega arith;
+      others = λ y ne. reads-put_other 1 y v registers1 ne ∙ reads-put_other 1 y x registers ne;
+    }
+  where
+    even : (to : ℕ) → (0x80300000 + 4 * to) / 2 * 2 ≡ 0x80300000 + 4 * to
+    even to = omega arith
+
+    multiple : (to : ℕ) → (0x80300000 + 4 * to) % 4 ≡ 0
+    multiple to = omega arith
+
+-- ---- before the body
+
+pub record Opened (g : Ground) (j to sp bytes down : ℕ) (rs registers ram answers : List ℕ) (trace : List Event) : Type 0 where
+  pub registers' : List ℕ
+  pub ram' : List ℕ
+  pub good : Good g.code registers' ram'
+  pub steps : ℕ
+  pub few : steps ≤ 5 + length rs
+  pub some : 1 ≤ steps
+  pub runs : Runs g.low steps (at g.code j registers ram answers trace) (at g.code to registers' ram' answers trace)
+  pub pointer : reads registers' 2 ≡ sp - bytes - down
+  pub others : (y : ℕ) → y ≢ 2 → y ≢ 1 → reads registers' y ≡ reads registers y
+  pub back : word_at ram' (sp - bytes) ≡ reads registers 1
+  pub stored : Stored registers ram' (sp - bytes + 4) rs
+  pub bytes_stay : (q : ℕ) → 0x80100000 ≤ q → (q < sp - bytes) ⊎ (sp ≤ q) → slice_index ram' (q - 0x80100000) ≡ slice_index ram (q - 0x80100000)
+
+-- registers that agree stand alike
+stored_same : (registers registers' ram : List ℕ) (a : ℕ) (rs : List ℕ) → AllByRecursion (λ q. 3 ≤ q) rs → ((y : ℕ) → 3 ≤ y → reads registers' y ≡ reads registers y) → Stored registers' ram a rs → Stored registers ram a rs
+stored_same _ _ ram a [] low same h = tt
+stored_same was now ram a (r ∷ rs) low same h = (h.0 ∙ same r low.0, stored_same was now ram (a + 4) rs low.1 same h.1)
+
+pub opens : (g : Ground) (j sp down : ℕ) (rs registers ram answers : List ℕ) (trace : List Event)
+    → Ready g.code registers ram answers j
+    → AllByRecursion (λ q. 3 ≤ q) rs → length rs ≤ 29
+    → Placed g.code j (Does (Imm Addi 2 2 (negsuc (4 * (1 + length rs) - 1))) ∷ (save_items 0 (1 ∷ rs) ++ move_items ((2 ^ 32 - down) % 2 ^ 32)))
+    → reads registers 2 ≡ sp → sp ≤ 0x80300000 → g.low + 4 * (1 + length rs) + down ≤ sp
+    → Opened g j (j + 1 + length (save_items 0 (1 ∷ rs)) + length (move_items ((2 ^ 32 - down) % 2 ^ 32))) sp (4 * (1 + length rs)) down rs registers ram answers trace
+opens g j sp down rs registers ram answers trace ready names few_rs placed pointer top room =
+    let bottom = g.bottom in
+    let good = good_of g.code registers ram answers j ready in
+    let all = good.all in
+    let machine_is = ready.is in
+    let bytes = 4 * (1 + length rs) in
+    let a = sp - bytes in
+    let v = (register (machine g.code j registers ram) 2 + wrapped (negsuc (bytes - 1))) % 2 ^ 32 in
+    let v_is : v ≡ a = ap (λ q. (q + wrapped (negsuc (bytes - 1))) % 2 ^ 32) pointer ∙ omega arith in
+    let step1 = step_sets g.table g.code registers ram answers trace g.low j (Imm Addi 2 2 (negsuc (bytes - 1))) 2 v good placed.0 placed.1 refl refl (IsAbove-none g.low) in
+    let registers1 = put 2 v registers in
+    let good1 = Good-put g.code registers ram 2 v good in
+    let two1 : reads registers1 2 ≡ a = reads-put_same 2 v registers (omega arith) (omega arith) ∙ v_is in
+    let run1 = runs_one g.low (at g.code j registers ram answers trace) (at g.code (j + 1) registers1 ram answers trace) step1 in
+    let ready1 = ready_runs g registers ram answers registers1 ram answers trace trace j (j + 1) 1 ready run1 in
+    let words1 = ready1.is in
+    let saves = placed-front g.code (j + 1) (save_items 0 (1 ∷ rs)) (move_items ((2 ^ 32 - down) % 2 ^ 32)) placed.2 in
+    let moves = placed-back g.code (j + 1) (save_items 0 (1 ∷ rs)) (move_items ((2 ^ 32 - down) % 2 ^ 32)) placed.2 in
+    let saved = saves_run g (1 ∷ rs) (j + 1) 0 a registers1 ram answers trace good1 words1.words saves (omega arith) (omega arith) (omega arith) in
+    let k = j + 1 + length (save_items 0 (1 ∷ rs)) in
+    let points = move_points g k registers1 saved.ram' answers trace ((2 ^ 32 - down) % 2 ^ 32) a (a - down) saved.good moves two1 (omega arith) (omega arith) in
+    let few = points.few in
+    record {
+      registers' = points.registers';
+      ram' = saved.ram';
+      good = points.good;
+      steps = 1 + (length (1 ∷ rs) + points.steps);
+      few = omega arith;
+      some = omega arith;
+      runs = runs-append g.low 1 (length (1 ∷ rs) + points.steps) (at g.code j registers ram answers trace) (at g.code (j + 1) registers1 ram answers trace) (at g.code (k + length (move_items ((2 ^ 32 - down) % 2 ^ 32))) points.registers' saved.ram' answers trace) run1
+          (runs-append g.low (length (1 ∷ rs)) points.steps (at g.code (j + 1) registers1 ram answers trace) (at g.code k registers1 saved.ram' answers trace) (at g.code (k + length (move_items ((2 ^ 32 - down) % 2 ^ 32))) points.registers' saved.ram' answers trace) saved.runs points.runs);
+      pointer = points.value;
+      others = λ y ne one. points.others y ne one ∙ reads-put_other 2 y v registers ne;
+      back = saved.stored.0 ∙ reads-put_other 2 1 v registers (omega arith);
+      stored = stored_same registers registers1 saved.ram' (a + 4) rs names (λ y low. reads-put_other 2 y v registers (omega arith)) saved.stored.1;
+      bytes_stay = λ q from apart. saved.others q from (aside q apart);
+    }
+  where
+    aside : (q : ℕ) → (q < sp - 4 * (1 + length rs)) ⊎ (sp ≤ q) → (q < sp - 4 * (1 + length rs)) ⊎ (sp - 4 * (1 + length rs) + 4 * length (1 ∷ rs) ≤ q)
+    aside q (inl h) = inl h
+    aside q (inr h) = let bottom = g.bottom in inr (omega arith)
+
+-- ---- after the body
+
+pub record Closed (g : Ground) (j to sp bytes : ℕ) (rs registers ram answers : List ℕ) (trace : List Event) : Type 0 where
+  pub registers' : List ℕ
+  pub steps : ℕ
+  pub few : steps ≤ 6 + length rs
+  pub runs : Runs g.low steps (at g.code j registers ram answers trace) (at g.code to registers' ram answers trace)
+  pub pointer : reads registers' 2 ≡ sp
+  pub stored : Stored registers' ram (sp - bytes + 4) rs
+  pub others : (y : ℕ) → NoneOf y rs → y ≢ 2 → y ≢ 1 → reads registers' y ≡ reads registers y
+
+stored_after : (registers registers' ram : List ℕ) (a : ℕ) (rs : List ℕ) → AllByRecursion (λ q. 3 ≤ q) rs → ((y : ℕ) → y ≢ 2 → y ≢ 1 → reads registers' y ≡ reads registers y) → Stored registers ram a rs → Stored registers' ram a rs
+stored_after registers registers' ram a [] low same h = tt
+stored_after registers registers' ram a (r ∷ rs) low same h = (let big = low.0 in h.0 ∙ sym (same r (omega arith) (omega arith)), stored_after registers registers' ram (a + 4) rs low.1 same h.1)
+
+pub closes : (g : Ground) (j to sp down : ℕ) (rs registers ram answers : List ℕ) (trace : List Event)
+    → Good g.code registers ram → Rises rs → AllByRecursion (λ q. 3 ≤ q) rs → length rs ≤ 29
+    → Placed g.code j (move_items down ++ (restore_items 1 rs ++ exit_items (4 * (1 + length rs))))
+    → reads registers 2 ≡ sp - 4 * (1 + length rs) - down → sp ≤ 0x80300000 → g.low + 4 * (1 + length rs) + down ≤ sp
+    → word_at ram (sp - 4 * (1 + length rs)) ≡ 0x80300000 + 4 * to → to < 2000000
+    → Closed g j to sp (4 * (1 + length rs)) rs registers ram answers trace
+closes g j to sp down rs registers ram answers trace good rises names few_rs placed pointer top room back near =
+    let bottom = g.bottom in
+    let bytes = 4 * (1 + length rs) in
+    let a = sp - bytes in
+    let tail = restore_items 1 rs ++ exit_items bytes in
+    let p1 = placed-front g.code j (move_items down) tail placed in
+    let p2 = placed-back g.code j (move_items down) tail placed in
+    let k1 = j + length (move_items down) in
+    let points = move_points g j registers ram answers trace down (a - down) a good p1 pointer (omega arith) (omega arith) in
+    let q1 = placed-front g.code k1 (restore_items 1 rs) (exit_items bytes) p2 in
+    let q2 = placed-back g.code k1 (restore_items 1 rs) (exit_items bytes) p2 in
+    let two1 = points.value in
+    let restored = restores_run g rs k1 1 (a + 4) points.registers' ram answers trace points.good q1 rises names (omega arith) (omega arith) (omega arith) in
+    let k2 = k1 + length (restore_items 1 rs) in
+    let two2 : reads restored.registers' 2 ≡ a = restored.others 2 (two_of rs names) (omega arith) ∙ two1 in
+    let exits = exit_run g k2 to bytes sp restored.registers' ram answers trace restored.good q2 (ap (word_at ram) two2 ∙ back) (omega arith) top (omega arith) (omega arith) near in
+    let few = points.few in
+    record {
+      registers' = exits.registers';
+      steps = points.steps + (length rs + 3);
+      few = omega arith;
+      runs = runs-append g.low points.steps (length rs + 3) (at g.code j registers ram answers trace) (at g.code k1 points.registers' ram answers trace) (at g.code to exits.registers' ram answers trace) points.runs
+          (runs-append g.low (length rs) 3 (at g.code k1 points.registers' ram answers trace) (at g.code k2 restored.registers' ram answers trace) (at g.code to exits.registers' ram answers trace) restored.runs exits.runs);
+      pointer = exits.value;
+      stored = stored_after restored.registers' exits.registers' ram (a + 4) rs names exits.others restored.stored;
+      others = λ y none ne one. exits.others y ne one ∙ restored.others y none one ∙ points.others y ne one;
+    }
+  where
+    two_of : (rs : List ℕ) → AllByRecursion (λ q. 3 ≤ q) rs → NoneOf 2 rs
+    two_of [] h = tt
+    two_of (r ∷ rs) h = (let l = h.0 in omega arith, two_of rs h.1)

@@ -1,0 +1,80 @@
+-- Flat programs as they stand in code, and what the machine shows of their entries.
+use Rattle.std.specs.Prelude.{◌≡◌, ◌⊎◌, ℕ, ◌+◌, ◌*◌, ◌%◌, ◌≤◌, ◌&&◌, nat_le, Bool, true, IsTrue, List, [], ◌∷◌, length, map, sum, Some, slice_get}
+use Rattle.std.specs.List.{list_all}
+use Rattle.br_words.specs.declared.layout.Layout.TheVariants.{Two}
+use Rattle.br_words.specs.Layout.{code_base, stack_base}
+use Rattle.br_bytes.specs.declared.run.Choice.{Choice}
+use Rattle.br_bytes.specs.declared.run.Outcome.TheVariants.{Undefined}
+use Rattle.br_bytes.specs.Memory.{Memory}
+use Rattle.br_bytes.specs.Buffers.{AreWords, AreChoices}
+use Rattle.br_bytes.specs.Called.{Called}
+use Rattle.br_flatimp.specs.declared.program.Stmt.TheOpen.{Stmt-F}
+use Rattle.br_flatimp.specs.declared.program.FlatFunc.{FlatFunc}
+use Rattle.br_flatimp.specs.Parts.{written, throughout, callees, own_callees}
+use Rattle.br_flatimp.specs.Liveness.{is_in}
+use Rattle.br_flatimp.specs.WellFormed.{is_passing, values_fit, uses_registers}
+use Rattle.br_flatimp.specs.Sizes.{statement_bulk, nest}
+use Rattle.br_flatimp.specs.Runs.{Forgets, call_forgetting}
+use Rattle.br_machine.specs.Start.{Leftover, IsLeftover, IsInData, start}
+use Rattle.br_emit.specs.Reaches.{Reaches}
+use Rattle.br_emit.specs.Code.{Item, item_word, ItemFits, Targets, changes, saved_bytes, callable_items}
+
+-- items stand in code from word j on, and fit
+abbrev pub Placed : List ℕ → ℕ → List Item → Type 0
+Placed code j [] = Unit {0}
+Placed code j (i ∷ is) = (slice_get code j ≡ Some (item_word i)) × ItemFits i × Placed code (j + 1) is
+
+-- a statement of a program in register form, its parts aside: it writes names of a set, and calls functions of
+-- a set
+abbrev pub is_fine : {X : Type 0} → List FlatFunc → (ℕ → Bool) → (ℕ → Bool) → Stmt-F X → Bool
+is_fine fs touched called y =
+    uses_registers y && values_fit fs y && list_all touched (written y) && list_all called (own_callees y)
+
+-- the functions that a function may call: its callees, where what they need is at most a limit
+abbrev pub may_call : FlatFunc → (ℕ → ℕ) → ℕ → ℕ → Bool
+may_call f need limit g = is_in (callees f) g && nat_le (need g) limit
+
+-- What holds of the function numbered n: it is in register form, it needs what it saves, its buffers and what
+-- its callees need at most, a unit of fuel pays for its steps, and where it is called its code stands there.
+pub record Function (code : List ℕ) (fs : List FlatFunc) (targets : Targets) (forgets : Forgets) (called : ℕ → Bool) (need limit : ℕ → ℕ) (total n : ℕ) (f : FlatFunc) : Type 0 where
+  pub args : IsTrue (is_passing f.args)
+  pub few_args : length f.args ≤ 8
+  pub results : IsTrue (is_passing f.results)
+  pub few_results : length f.results ≤ 8
+  pub body : IsTrue (list_all (throughout (is_fine fs (changes forgets f) (may_call f need (limit n)))) f.body)
+  pub bulk : 80 + sum (map statement_bulk f.body) ≤ total
+  pub needs : saved_bytes forgets n f + nest f + limit n ≤ need n
+  pub fours : nest f % 4 ≡ 0
+  pub calls : (g : ℕ) → is_in (callees f) g ≡ true → called g ≡ true
+  pub placed : called n ≡ true → (place : ℕ) × (targets n ≡ code_base Two + 4 * place) × Placed code place (callable_items targets forgets n f)
+
+-- A program in code: `targets` are the addresses of the functions that are called, a call of g may leave the
+-- registers `forgets g` changed, `need` and `limit` are the bytes of stack of each function and of its callees,
+-- nothing of the stack below `low` is used, and `total` pays for the steps of a unit of fuel.
+pub record Laid : Type 0 where
+  pub code : List ℕ
+  pub fs : List FlatFunc
+  pub targets : Targets
+  pub forgets : Forgets
+  pub called : ℕ → Bool
+  pub need : ℕ → ℕ
+  pub limit : ℕ → ℕ
+  pub low : ℕ
+  pub total : ℕ
+  pub bottom : stack_base ≤ low
+  pub functions : (n : ℕ) (f : FlatFunc) → slice_get fs n ≡ Some f → Function code fs targets forgets called need limit total n f
+
+-- what is shown of a call from outside: it is undefined with some choices, or the machine shows it
+abbrev pub EntryShown : List ℕ → ℕ → List ℕ → Memory → List ℕ → Leftover → ℕ → ℕ → ℕ → (List Choice → Called) → Type 0
+EntryShown code offset args m answers j fuel need bound called =
+    (choices : List Choice) × AreChoices choices ×
+    (((called choices).outcome ≡ Undefined)
+    ⊎ Reaches (start Two code offset args m j) answers (called choices).outcome (called choices).trace (called choices).memory fuel need bound)
+
+-- An entry at a place shows the calls of its function: for all arguments, memory, answers, leftover contents and
+-- fuel, within a number of steps for each unit of fuel and one more.
+abbrev pub ShowsCalls : Laid → ℕ → FlatFunc → ℕ → ℕ → ℕ → Type 0
+ShowsCalls l n f place need all =
+    (fuel : ℕ) (args : List ℕ) → length args ≡ length f.args → AreWords args
+    → (m : Memory) → IsInData m → (answers : List ℕ) → AreWords answers → (j : Leftover) → IsLeftover j
+    → EntryShown l.code (4 * place) args m answers j fuel need ((fuel + 1) * all) (λ choices. call_forgetting l.forgets l.fs n args m answers choices fuel)
