@@ -1,5 +1,5 @@
 -- A program has at most one fault.
-use Rattle.std.proofs.Common.{◌≡◌, ℕ, zero, suc, ◌<◌, ◌≤◌, List, [], ◌∷◌, Some, length, get_or, map, sym, ap, subst, ◌∙◌, arith, ⊎_elim, Contains}
+use Rattle.std.proofs.Common.{◌≡◌, ℕ, zero, suc, ◌+◌, ◌*◌, ◌/◌, ◌%◌, ◌<◌, ◌≤◌, ◌==◌, if◌then◌else◌, List, [], ◌∷◌, Some, length, get_or, map, refl, sym, ap, subst, ◌∙◌, arith, ⊎_elim, Contains}
 use Rattle.std.proofs.lemmas.Bool.{cases_order}
 use Rattle.br_syntax.specs.declared.program.Func.{Func}
 use Rattle.br_syntax.specs.NameFaults as names
@@ -11,33 +11,25 @@ use Rattle.br_measure.specs.Faults.{IsRecursive, IsTooDeep, IsLaterFault, IsFaul
 use Rattle.br_measure.proofs.FoundFaults.{no_name}
 use Rattle.br_measure.proofs.SameFaults.{told, faults_same}
 
+-- the fault of names at a place
+abbrev fault_at : ℕ → ℕ → NameFault
+fault_at at kind =
+    if kind == 0 then DuplicateFunction at
+    else (if kind == 1 then UnknownFunction at
+    else (if kind == 2 then WrongArguments at
+    else (if kind == 3 then WrongResults at
+    else UnknownAction at)))
+
+back : (n : names.NameFault) → fault_at (place (told n) / 5) (place (told n) % 5) ≡ told n
+back (names.DuplicateFunction at) = let q : 5 * at / 5 ≡ at = omega arith in let r : 5 * at % 5 ≡ 0 = omega arith in rw (q, r) refl
+back (names.UnknownFunction at) = let q : (5 * at + 1) / 5 ≡ at = omega arith in let r : (5 * at + 1) % 5 ≡ 1 = omega arith in rw (q, r) refl
+back (names.WrongArguments at) = let q : (5 * at + 2) / 5 ≡ at = omega arith in let r : (5 * at + 2) % 5 ≡ 2 = omega arith in rw (q, r) refl
+back (names.WrongResults at) = let q : (5 * at + 3) / 5 ≡ at = omega arith in let r : (5 * at + 3) % 5 ≡ 3 = omega arith in rw (q, r) refl
+back (names.UnknownAction at) = let q : (5 * at + 4) / 5 ≡ at = omega arith in let r : (5 * at + 4) % 5 ≡ 4 = omega arith in rw (q, r) refl
+
 -- faults of names at one place are the same
 same_place : (n m : names.NameFault) → place (told n) ≡ place (told m) → told n ≡ told m
-same_place (names.DuplicateFunction at) (names.DuplicateFunction to) e = let same : at ≡ to = omega arith in ap DuplicateFunction same
-same_place (names.DuplicateFunction at) (names.UnknownFunction to) e = absurd (omega arith)
-same_place (names.DuplicateFunction at) (names.WrongArguments to) e = absurd (omega arith)
-same_place (names.DuplicateFunction at) (names.WrongResults to) e = absurd (omega arith)
-same_place (names.DuplicateFunction at) (names.UnknownAction to) e = absurd (omega arith)
-same_place (names.UnknownFunction at) (names.DuplicateFunction to) e = absurd (omega arith)
-same_place (names.UnknownFunction at) (names.UnknownFunction to) e = let same : at ≡ to = omega arith in ap UnknownFunction same
-same_place (names.UnknownFunction at) (names.WrongArguments to) e = absurd (omega arith)
-same_place (names.UnknownFunction at) (names.WrongResults to) e = absurd (omega arith)
-same_place (names.UnknownFunction at) (names.UnknownAction to) e = absurd (omega arith)
-same_place (names.WrongArguments at) (names.DuplicateFunction to) e = absurd (omega arith)
-same_place (names.WrongArguments at) (names.UnknownFunction to) e = absurd (omega arith)
-same_place (names.WrongArguments at) (names.WrongArguments to) e = let same : at ≡ to = omega arith in ap WrongArguments same
-same_place (names.WrongArguments at) (names.WrongResults to) e = absurd (omega arith)
-same_place (names.WrongArguments at) (names.UnknownAction to) e = absurd (omega arith)
-same_place (names.WrongResults at) (names.DuplicateFunction to) e = absurd (omega arith)
-same_place (names.WrongResults at) (names.UnknownFunction to) e = absurd (omega arith)
-same_place (names.WrongResults at) (names.WrongArguments to) e = absurd (omega arith)
-same_place (names.WrongResults at) (names.WrongResults to) e = let same : at ≡ to = omega arith in ap WrongResults same
-same_place (names.WrongResults at) (names.UnknownAction to) e = absurd (omega arith)
-same_place (names.UnknownAction at) (names.DuplicateFunction to) e = absurd (omega arith)
-same_place (names.UnknownAction at) (names.UnknownFunction to) e = absurd (omega arith)
-same_place (names.UnknownAction at) (names.WrongArguments to) e = absurd (omega arith)
-same_place (names.UnknownAction at) (names.WrongResults to) e = absurd (omega arith)
-same_place (names.UnknownAction at) (names.UnknownAction to) e = let same : at ≡ to = omega arith in ap UnknownAction same
+same_place n m e = sym (back n) ∙ ap (λ (p : ℕ). fault_at (p / 5) (p % 5)) e ∙ back m
 
 -- what stands among faults of names is one
 told_at : (ns : List names.NameFault) (k : ℕ) (x : NameFault) → k < length (map told ns) → get_or (map told ns) k x ≡ x → (n : names.NameFault) × (told n ≡ x)

@@ -111,6 +111,39 @@ fn texts_have_their_faults(rt: HostRuntime) -> Result<(), Fail> {
     for (text, wanted) in cases {
         assert_eq!(rt; fault(&rt, rt.alloc(), text)?, wanted);
     }
+    for (fault, wanted) in [
+        (
+            NameFault::DuplicateFunction(1),
+            "a second function of this name, at offset 1",
+        ),
+        (
+            NameFault::UnknownFunction(2),
+            "no function of this name, at offset 2",
+        ),
+        (
+            NameFault::WrongArguments(3),
+            "a wrong number of arguments, at offset 3",
+        ),
+        (
+            NameFault::WrongResults(4),
+            "a wrong number of results, at offset 4",
+        ),
+        (
+            NameFault::UnknownAction(5),
+            "no action of this name, at offset 5",
+        ),
+        (NameFault::TooLarge(6), "a program of bulk 6"),
+        (
+            NameFault::Recursion(7),
+            "function 7 has a path of calls to itself",
+        ),
+        (
+            NameFault::StackTooDeep(8, 9),
+            "function 8 may need 9 bytes of stack",
+        ),
+    ] {
+        assert_eq!(rt; format!(in rt.alloc(); "{fault}")?.as_str(), wanted);
+    }
     Ok(())
 }
 

@@ -227,6 +227,27 @@ mod tests {
             let found = fault(rt.alloc(), text.as_bytes())?;
             assert_eq!(rt; found, answer, "{text:?}");
         }
+        for (fault, message) in [
+            (
+                TextFault::BadByte(1),
+                "a byte that begins no token, at offset 1",
+            ),
+            (TextFault::BadNumber(2), "no number below 2^32, at offset 2"),
+            (
+                TextFault::ExtraClose(3),
+                "a closing parenthesis with no partner, at offset 3",
+            ),
+            (
+                TextFault::Unclosed(4),
+                "a parenthesis that is never closed, at offset 4",
+            ),
+            (
+                TextFault::TooDeep(5),
+                "a parenthesis inside 256 others, at offset 5",
+            ),
+        ] {
+            assert_eq!(rt; format!(in rt.alloc(); "{fault}")?.as_str(), message);
+        }
         Ok(())
     }
 

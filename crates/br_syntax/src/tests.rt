@@ -86,6 +86,24 @@ fn the_lowest_fault(rt: HostRuntime) -> Result<(), Fail> {
     ] {
         assert_eq!(rt; fault_in(rt.alloc(), text)?, Some(fault), "in {text}");
     }
+    for (fault, message) in [
+        (ShapeFault::BadForm(1), "no such form, at offset 1"),
+        (ShapeFault::BadSize(2), "a buffer of this size, at offset 2"),
+        (
+            ShapeFault::BadByteValue(3),
+            "a number above 255 in a table, at offset 3",
+        ),
+        (
+            ShapeFault::TooMany(4),
+            "a ninth name or argument, at offset 4",
+        ),
+        (
+            ShapeFault::Repeated(5),
+            "a name again in one list, at offset 5",
+        ),
+    ] {
+        assert_eq!(rt; format!(in rt.alloc(); "{fault}")?.as_str(), message);
+    }
     Ok(())
 }
 
