@@ -4,8 +4,8 @@
 //! The laws of these definitions are contracts of functions that do nothing: where such a function is
 //! called, its contract is among the facts there. What a pass shows of its answer goes by pieces that
 //! each stand as a lemma: `proofs/Matches` for the forms of runs over any variables, `proofs/Renamed` for
-//! one statement, `proofs/Uniform` for functions, and `refines-from_entries` of `proofs/Programs`, which
-//! makes Refines of what holds of each function.
+//! one statement, `proofs/Skips` for one that the answer leaves out, `proofs/Uniform` for functions, and
+//! `refines-from_entries` of `proofs/Programs`, which makes Refines of what holds of each function.
 #![tactic(auto)]
 
 mod forms;
