@@ -218,7 +218,7 @@ fn writes_that_fail(rt: HostRuntime) -> Result<(), Fail> {
     let (status, whole, _) = answer(rt.alloc(), "compile", WRITES_A_WORD, NEVER)?;
     assert_eq!(rt; status, Status::Done);
     let whole = whole.held();
-    assert!(rt; whole.starts_with(b"brimage 1\nentry main 0 0 "));
+    assert!(rt; whole.starts_with(b"brimage 2\nentry main 0 0 "));
     for write in 0..whole.len().div_ceil(MOST) {
         let failing = Failing {
             out: Some(write as u64),
@@ -249,7 +249,7 @@ fn lines_that_fail(rt: HostRuntime) -> Result<(), Fail> {
 fn empty_text(rt: HostRuntime) -> Result<(), Fail> {
     let (status, out, _) = answer(rt.alloc(), "compile", b"", NEVER)?;
     assert_eq!(rt; status, Status::Done);
-    assert_eq!(rt; out.held(), b"brimage 1\ncode 0\nend\n".as_slice());
+    assert_eq!(rt; out.held(), b"brimage 2\ncode 0\nend\n".as_slice());
     let failing = Failing {
         out: Some(1),
         ..NEVER
@@ -298,7 +298,7 @@ fn repeated(
 fn repeated_forms(rt: HostRuntime) -> Result<(), Fail> {
     let head = b"(fn f () () ".as_slice();
     let cases: [(&[u8], &[u8], usize, usize, &[u8]); 4] = [
-        (head, b"(skip)", 8_185, 1, b"brc: refused TooLarge 8193\n"),
+        (head, b"(skip)", 32_761, 1, b"brc: refused TooLarge 32769\n"),
         (
             head,
             b"(stackalloc p 65536 ",
