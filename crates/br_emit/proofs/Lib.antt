@@ -19,3 +19,4 @@ pub mod Calling
 pub mod Deep
 pub mod Starting
 pub mod Entries
+pub mod Assembled

@@ -4,4 +4,4 @@
 
 mod laws;
 
-pub use laws::{called_entries_show_calls, direct_entries_show_calls};
+pub use laws::{called_entries_show_calls, code_shows_its_program, direct_entries_show_calls};
