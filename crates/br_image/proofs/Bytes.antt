@@ -1,13 +1,13 @@
 -- Bytes and their digits.
-use Rattle.std.proofs.Common.{◌≡◌, ℕ, zero, suc, ◌+◌, ◌/◌, ◌%◌, ◌^◌, ◌<◌, ◌≤◌, List, [], ◌∷◌, ◌++◌, refl, ap, sym, ◌∙◌, arith, length, length-append, get_or, take, drop, inl, inr, ◌⊎◌, subst, Result, Ok}
+use Rattle.std.proofs.Common.{◌≡◌, ℕ, suc, ◌/◌, ◌%◌, ◌^◌, ◌<◌, ◌≤◌, List, [], ◌∷◌, ◌++◌, refl, ap, sym, ◌∙◌, arith, length, length-append, get_or, take, drop, inl, inr, Ok}
 use Rattle.std.specs.Prelude.{All, slice_index, ◌≢◌}
-use Rattle.std.proofs.lemmas.Bool.{cases_lt, cases_eq}
+use Rattle.std.proofs.lemmas.Bool.{cases_lt}
 use Rattle.std.proofs.lemmas.List.{get_or_past}
 use Rattle.std.proofs.lemmas.List.Elements.{All-cons, All-nil, All-head, All-tail}
 use Rattle.hex.specs.Hex.{IsBytes, encode_with, encode_lower, lower_digits, decode_of}
 use Rattle.hex.proofs.HexLemmas.{decode_of-encode_lower}
 use Rattle.br_image.specs.Text.{hex_digit, word_text}
-use Rattle.br_image.specs.Fields.{byte_text, bytes_text, bytes_field, word_fields}
+use Rattle.br_image.specs.Fields.{bytes_text, bytes_field, word_fields}
 use Rattle.br_image.proofs.Digits.{digit_at}
 use Rattle.br_image.proofs.Pieces.{Free, Free-append}
 use Rattle.br_image.proofs.Forms.{Free-digit, Free-word, word_text-injective}

@@ -1,5 +1,5 @@
 -- What the text of a script's line tells.
-use Rattle.std.proofs.Common.{◌≡◌, ◌≢◌, ◌⊎◌, inl, inr, ℕ, zero, suc, ◌+◌, ◌*◌, ◌^◌, ◌<◌, ◌≤◌, ◌==◌, Bool, true, false, List, [], ◌∷◌, ◌++◌, refl, ap, sym, ◌∙◌, arith, append-nil, subst, length, take, drop, Option, Some, None}
+use Rattle.std.proofs.Common.{◌≡◌, ◌≢◌, ◌⊎◌, inl, inr, ℕ, zero, suc, ◌+◌, ◌*◌, ◌^◌, ◌<◌, ◌≤◌, ◌==◌, List, [], ◌∷◌, ◌++◌, refl, ap, sym, ◌∙◌, arith, append-nil, subst, length, take, drop, Option, Some, None}
 use Rattle.std.specs.Prelude.{All, codes, slice_index, if◌then◌else◌}
 use Rattle.std.specs.Fmt.{decimal}
 use Rattle.std.proofs.lemmas.Bool.{cases_lt, cases_eq}
@@ -16,11 +16,11 @@ use Rattle.br_image.specs.declared.scripts.lines.ScriptLine.TheVariants.{Run, In
 use Rattle.br_image.specs.Text.{word_text}
 use Rattle.br_image.specs.Forms.{IsTail}
 use Rattle.br_image.specs.Fields.{bytes_text, bytes_field, word_fields}
-use Rattle.br_image.specs.ScriptLines.{keyword, form_of, tail_of, range_fields, answer_fields, script_line_text, IsBuffer, IsRange, IsAnswer, IsScriptLine, most_answers, most_limit}
+use Rattle.br_image.specs.ScriptLines.{keyword, form_of, tail_of, range_fields, script_line_text, IsBuffer, IsRange, IsScriptLine, most_answers}
 use Rattle.br_image.specs.ScriptReading.{IsContent, IsScriptLineOf}
 use Rattle.br_image.proofs.Pieces.{Free, Free-append, Free-not, Free-from_test, Free-decimal, Free-name, cut}
 use Rattle.br_image.proofs.Forms.{Free-word, word_text-injective}
-use Rattle.br_image.proofs.Bytes.{Free-bytes, Free-bytes_field, bytes_field-injective, bytes_text-injective, word_front, fields_front, Free-word_fields}
+use Rattle.br_image.proofs.Bytes.{Free-bytes_field, bytes_field-injective, bytes_text-injective, word_front, fields_front, Free-word_fields}
 use Rattle.br_image.proofs.Deciding.{cut_at, same_bytes, number_below, name_or_not}
 
 -- ---- forms by number

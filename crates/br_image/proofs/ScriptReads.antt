@@ -1,16 +1,14 @@
 -- What the reading of a script finds.
-use Rattle.std.proofs.Common.{◌≡◌, ◌≢◌, ℕ, ◌+◌, ◌-◌, ◌<◌, ◌≤◌, List, [], ◌∷◌, ◌++◌, refl, ap, sym, ◌∙◌, arith, append_assoc, length-append, subst, length, drop, take, Option, Some, None}
-use Rattle.std.specs.Prelude.{All}
+use Rattle.std.proofs.Common.{◌≡◌, ◌≢◌, ℕ, ◌+◌, ◌-◌, ◌<◌, ◌≤◌, List, [], ◌∷◌, ◌++◌, refl, ap, sym, ◌∙◌, arith, append_assoc, length-append, subst, length, drop, take, None}
 use Rattle.std.proofs.lemmas.List.{take_all, length-drop}
 use Rattle.br_image.specs.declared.scripts.lines.ScriptLine.{ScriptLine}
 use Rattle.br_image.specs.declared.scripts.order.Part.{Part}
 use Rattle.br_image.specs.declared.scripts.said.Said.{Said}
-use Rattle.br_image.specs.declared.scripts.values.ScriptFault.{ScriptFault}
 use Rattle.br_image.specs.declared.scripts.values.ScriptFault.TheVariants.{BadScriptLine, ScriptEnds}
 use Rattle.br_image.specs.Text.{line}
 use Rattle.br_image.specs.Forms.{Lacks}
 use Rattle.br_image.specs.ScriptLines.{form_of, script_line_text, IsScriptLine}
-use Rattle.br_image.specs.Scripts.{Fits, BeginsScript, HasScript, InScriptLimits, IsScriptFault}
+use Rattle.br_image.specs.Scripts.{Fits, BeginsScript, InScriptLimits, IsScriptFault}
 use Rattle.br_image.specs.ScriptReading.{IsScriptLineOf, Leaves}
 use Rattle.br_image.specs.Said.{AreSound, Says, Allows, Adds, HasSaid}
 use Rattle.br_image.specs.TextLines.{lines_text, GoesOn}

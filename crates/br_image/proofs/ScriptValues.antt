@@ -1,14 +1,12 @@
 -- What the lines of a script say.
-use Rattle.std.proofs.Common.{◌≡◌, ◌≢◌, ◌⊎◌, inl, inr, ℕ, ◌+◌, ◌<◌, ◌≤◌, List, [], ◌∷◌, ◌++◌, refl, ap, sym, ◌∙◌, arith, append-nil, length-append, subst, length, Option, Some, None}
+use Rattle.std.proofs.Common.{◌≡◌, ◌≢◌, ◌⊎◌, inl, inr, ℕ, ◌+◌, ◌≤◌, List, [], ◌∷◌, ◌++◌, refl, ap, sym, ◌∙◌, arith, append-nil, length-append, subst, length, Option, Some, None}
 use Rattle.std.specs.Prelude.{All, replicate, IsSome, is_some}
 use Rattle.std.specs.List.{flat_map}
 use Rattle.std.proofs.lemmas.Bool.{cases_lt}
 use Rattle.std.proofs.lemmas.Grind.{flat_map-append}
 use Rattle.std.proofs.lemmas.List.{length-replicate}
 use Rattle.std.proofs.lemmas.List.Elements.{All-cons, All-nil, All-head, All-tail, All-push}
-use Rattle.br_words.specs.Layout.{stack_base}
 use Rattle.br_bytes.specs.declared.run.Choice.{Choice}
-use Rattle.br_image.specs.declared.scripts.lines.Form.{Form}
 use Rattle.br_image.specs.declared.scripts.lines.Form.TheVariants as form
 use Rattle.br_image.specs.declared.scripts.lines.ScriptLine.{ScriptLine}
 use Rattle.br_image.specs.declared.scripts.lines.ScriptLine.TheVariants.{Call, Args, Mem, Junk, Answer, Limit}

@@ -3,7 +3,7 @@ use Rattle.std.proofs.Common.{◌≡◌, ◌≢◌, ◌⊎◌, inl, inr, ℕ, ze
 use Rattle.std.specs.Prelude.{All}
 use Rattle.std.proofs.lemmas.List.Elements.{All-head, All-tail}
 use Rattle.br_image.specs.Text.{line}
-use Rattle.br_image.specs.TextLines.{lines_text, GoesOn, IsWrongLine, IsCutOff}
+use Rattle.br_image.specs.TextLines.{lines_text, IsWrongLine, IsCutOff}
 use Rattle.br_image.proofs.Pieces.{Free, Free-not, Free-lacks, Lacks-free, cut}
 use Rattle.br_image.proofs.Deciding.{cut_at}
 

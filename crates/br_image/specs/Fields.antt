@@ -1,5 +1,5 @@
 -- The fields of a line, each after one space.
-use Rattle.std.specs.Prelude.{ℕ, ◌/◌, ◌%◌, List, [], ◌∷◌, ◌++◌}
+use Rattle.std.specs.Prelude.{ℕ, ◌/◌, ◌%◌, List, [], ◌∷◌}
 use Rattle.std.specs.List.{flat_map}
 use Rattle.br_image.specs.Text.{hex_digit, word_text}
 

@@ -1,5 +1,5 @@
 -- What lines of a script have said, and what was read of one.
-use Rattle.std.specs.Prelude.{ℕ, ◌≡◌, ◌≢◌, ◌+◌, ◌≤◌, List, [], ◌∷◌, ◌++◌, All, length, drop, Option, Some, None}
+use Rattle.std.specs.Prelude.{ℕ, ◌≡◌, ◌≢◌, ◌+◌, ◌≤◌, List, [], ◌∷◌, ◌++◌, All, length, Option, Some, None}
 use Rattle.std.specs.List.{flat_map}
 use Rattle.br_words.specs.Layout.{stack_base}
 use Rattle.br_bytes.specs.declared.run.Choice.{Choice}

@@ -1,5 +1,5 @@
 -- The lines of scripts: a first word, and fields that each follow one space.
-use Rattle.std.specs.Prelude.{ℕ, ◌≡◌, ◌≢◌, ◌+◌, ◌<◌, ◌≤◌, ◌^◌, List, [], ◌∷◌, ◌++◌, All, codes, length, Option, Some, None}
+use Rattle.std.specs.Prelude.{ℕ, ◌≢◌, ◌+◌, ◌<◌, ◌≤◌, ◌^◌, List, [], ◌∷◌, ◌++◌, All, codes, length}
 use Rattle.std.specs.Fmt.{decimal}
 use Rattle.br_base.specs.Name.{IsName}
 use Rattle.br_words.specs.Layout.{data_base, stack_base}

@@ -2,7 +2,6 @@
 use Rattle.std.specs.Prelude.{ℕ, ◌≡◌, ◌+◌, ◌≤◌, List, [], ◌∷◌, ◌++◌, All, length, drop, replicate}
 use Rattle.std.specs.List.{flat_map}
 use Rattle.br_bytes.specs.declared.run.Choice.{Choice}
-use Rattle.br_image.specs.declared.scripts.lines.Form.{Form}
 use Rattle.br_image.specs.declared.scripts.lines.Form.TheVariants as form
 use Rattle.br_image.specs.declared.scripts.lines.ScriptLine.{ScriptLine}
 use Rattle.br_image.specs.declared.scripts.lines.ScriptLine.TheVariants.{Call, Args, Mem, Junk, Choose, Answer, Limit}

@@ -1,6 +1,5 @@
-use Rattle.std.proofs.Common.{◌≡◌, ◌∙◌, inl, inr, ℕ, List, refl, ap, sym, Ok, Err, Result}
+use Rattle.std.proofs.Common.{◌≡◌, ◌∙◌, inl, inr, refl, ap, sym, Ok, Err}
 use Rattle.hex.specs.Hex.{encode_lower}
-use Rattle.hex.specs.declared.error.FromHexError.{FromHexError}
 use Rattle.hex.proofs.HexLemmas.{decode_of-ok}
 use Rattle.br_image.specs.Fields.{bytes_text}
 use Rattle.br_image.proofs.Bytes.{bytes_all, bytes-encoded, decode-bytes}

@@ -1,4 +1,3 @@
-use Rattle.std.proofs.Common.{true, false, ◌≡◌, sym, ◌∙◌}
 use Rattle.br_image.proofs.ScriptForms.{no_buffer, no_range}
 use Rattle.br_image.proofs.scripts.parsing.mem_line.Goals as goal
 

@@ -1,4 +1,4 @@
-use Rattle.std.proofs.Common.{◌≡◌, ℕ, List, ◌++◌, Option, Some, None}
+use Rattle.std.proofs.Common.{◌≡◌, ℕ, List, ◌++◌, Option}
 use Rattle.std.specs.Prelude.{Result, Ok, Err, IfOk}
 use Rattle.br_base.specs.declared.failure.NoMemory.{NoMemory}
 use Rattle.br_image.specs.declared.scripts.lines.Form.{Form}

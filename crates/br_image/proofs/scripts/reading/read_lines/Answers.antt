@@ -1,4 +1,4 @@
-use Rattle.std.proofs.Common.{◌≡◌, ◌<◌, ◌+◌, ℕ, List, length, arith, refl, sym, subst, true, false}
+use Rattle.std.proofs.Common.{◌≡◌, ◌<◌, List, length, arith, refl, subst, true, false}
 use Rattle.std.proofs.lemmas.Bool.Decides.{nat_tests}
 use Rattle.br_image.specs.declared.scripts.lines.Form.{Form}
 use Rattle.br_image.specs.declared.scripts.order.Part.{Part}

@@ -1,6 +1,3 @@
-use Rattle.std.proofs.Common.{◌≡◌, ◌∙◌, sym, List, ℕ, ◌∷◌, ap, Option, Some, None}
-use Rattle.std.specs.Prelude.{IsSome}
-use Rattle.br_image.specs.Scripts.{call_in, args_in, junk_in, limit_in}
 use Rattle.br_image.proofs.ScriptValues.{run_says, there_once, is_there, told_once}
 use Rattle.br_image.proofs.scripts.said.Said.run_script.Goals as goal
 
