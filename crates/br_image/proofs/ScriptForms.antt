@@ -107,7 +107,7 @@ one_line form.Answer = Free-from_test 10 (codes "answer") refl
 one_line form.Limit = Free-from_test 10 (codes "limit") refl
 one_line form.End = Free-from_test 10 (codes "end") refl
 
-words_tail : (ws : List ℕ) → IsTail (word_fields ws)
+pub words_tail : (ws : List ℕ) → IsTail (word_fields ws)
 words_tail [] = tt
 words_tail (w ∷ ws) = refl
 
@@ -187,7 +187,7 @@ same_choice : (c d : Choice) → c.addr ≡ d.addr → c.bytes ≡ d.bytes → c
 unfolding make_choice
 same_choice c d e h = let whole : make_choice c.addr c.bytes ≡ make_choice d.addr d.bytes = cc in whole
 
-range_fields-injective : (c d : Choice) → IsBuffer c → IsBuffer d → range_fields c ≡ range_fields d → c ≡ d
+pub range_fields-injective : (c d : Choice) → IsBuffer c → IsBuffer d → range_fields c ≡ range_fields d → c ≡ d
 range_fields-injective c d h k e =
     let parts = word_front c.addr d.addr (bytes_field c.bytes) (bytes_field d.bytes) h.address k.address (ap (λ t. drop 1 t) e) in
     same_choice c d parts.0 (bytes_field-injective c.bytes d.bytes h.bytes k.bytes parts.1)
@@ -196,7 +196,7 @@ words_same : (us vs ws : List ℕ) → ws ≡ vs ++ us → [] ≡ word_fields us
 words_same [] vs ws e h = sym (e ∙ append-nil vs)
 words_same (u ∷ us) vs ws e h = absurd cc
 
-word_fields-injective : (vs ws : List ℕ) → All (λ w. w < 2 ^ 32) vs → All (λ w. w < 2 ^ 32) ws → word_fields vs ≡ word_fields ws → vs ≡ ws
+pub word_fields-injective : (vs ws : List ℕ) → All (λ w. w < 2 ^ 32) vs → All (λ w. w < 2 ^ 32) ws → word_fields vs ≡ word_fields ws → vs ≡ ws
 word_fields-injective vs ws h k e =
     let front = fields_front vs ws [] h k (append-nil (word_fields vs) ∙ e) in
     words_same front.0 vs ws front.2 front.3
@@ -400,7 +400,7 @@ empty_or_not : (xs : List ℕ) → (xs ≡ []) ⊎ (xs ≢ [])
 empty_or_not [] = inl refl
 empty_or_not (x ∷ xs) = inr (λ e. absurd cc)
 
-range_or_not : (c : Choice) → IsBuffer c → IsRange c ⊎ (IsRange c → ⊥)
+pub range_or_not : (c : Choice) → IsBuffer c → IsRange c ⊎ (IsRange c → ⊥)
 range_or_not c h =
     elim (empty_or_not c.bytes) [
       | inl none ↦ inr (λ r. r.some none)
@@ -430,14 +430,14 @@ fixed_known f tail l h k only =
       | inr other ↦ (None, (λ m q. other_line f tail m l (λ r. other) (only m q)))
     ]
 
-spaced_or_not : (xs : List ℕ) → ((rest : List ℕ) × (xs ≡ 32 ∷ rest)) ⊎ ((rest : List ℕ) → xs ≢ 32 ∷ rest)
+pub spaced_or_not : (xs : List ℕ) → ((rest : List ℕ) × (xs ≡ 32 ∷ rest)) ⊎ ((rest : List ℕ) → xs ≢ 32 ∷ rest)
 spaced_or_not [] = inr (λ rest e. absurd cc)
 spaced_or_not (x ∷ xs) = elim (cases_eq x 32) [
   | inl same ↦ inl (xs, ap (λ c. c ∷ xs) same)
   | inr other ↦ inr (λ rest e. other cc)
 ]
 
-after : (xs rest more : List ℕ) → xs ≡ 32 ∷ rest → xs ≡ 32 ∷ more → rest ≡ more
+pub after : (xs rest more : List ℕ) → xs ≡ 32 ∷ rest → xs ≡ 32 ∷ more → rest ≡ more
 after xs rest more e h = ap (λ t. drop 1 t) (sym e ∙ h)
 
 call_known : (tail : List ℕ) → Known form.Call tail
@@ -478,7 +478,7 @@ mem_known tail =
       ]
     ]
 
-only_word : (tail : List ℕ) → ((w : ℕ) × (w < 2 ^ 32) × (tail ≡ 32 ∷ word_text w)) ⊎ ((w : ℕ) → w < 2 ^ 32 → tail ≢ 32 ∷ word_text w)
+pub only_word : (tail : List ℕ) → ((w : ℕ) × (w < 2 ^ 32) × (tail ≡ 32 ∷ word_text w)) ⊎ ((w : ℕ) → w < 2 ^ 32 → tail ≢ 32 ∷ word_text w)
 only_word tail = elim (number_below (λ w. 32 ∷ word_text w) tail (2 ^ 32)) [
   | inl found ↦ inl (found.0, found.1, found.2)
   | inr none ↦ inr none
@@ -564,7 +564,7 @@ no_range tail c h e none = λ l q.
 
 -- ---- lines
 
-split_word : (bytes : List ℕ) → (word : List ℕ) × (tail : List ℕ) × (bytes ≡ word ++ tail) × Free 32 word × IsTail tail
+pub split_word : (bytes : List ℕ) → (word : List ℕ) × (tail : List ℕ) × (bytes ≡ word ++ tail) × Free 32 word × IsTail tail
 split_word bytes = elim (cut_at 32 bytes) [
   | inl none ↦ (bytes, [], sym (append-nil bytes), none, tt)
   | inr found ↦ (found.0, 32 ∷ found.1, found.3, found.2, refl)

@@ -49,7 +49,7 @@ no_parts : (qs : List Part) → length qs ≡ 0 → qs ≡ []
 no_parts [] none = refl
 no_parts (q ∷ qs) none = absurd (omega arith)
 
-all_taken : (text : List ℕ) (at : ℕ) → take (length text - at) (drop at text) ≡ drop at text
+pub all_taken : (text : List ℕ) (at : ℕ) → take (length text - at) (drop at text) ≡ drop at text
 all_taken text at = let left = length-drop at text in take_all (length text - at) (drop at text) (omega arith)
 
 goes_on : (parts : List Part) (text : List ℕ) (qs : List Part) (at n : ℕ) (said : Said) (rest : List ℕ) (r : ReadTo parts text qs at n said) → 0 < length qs → drop at text ≡ rest

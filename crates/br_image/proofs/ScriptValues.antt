@@ -21,17 +21,17 @@ use Rattle.br_image.proofs.ScriptOrder.{once_from, said_once}
 
 -- ---- one line more
 
-snoc : {X : Type 0} (say : ScriptLine → List X) (lines : List ScriptLine) (l : ScriptLine) → flat_map say (lines ++ l ∷ []) ≡ flat_map say lines ++ say l
+pub snoc : {L X : Type 0} (say : L → List X) (lines : List L) (l : L) → flat_map say (lines ++ l ∷ []) ≡ flat_map say lines ++ say l
 snoc say lines l = flat_map-append say lines (l ∷ []) ∙ ap (λ t. flat_map say lines ++ t) (append-nil (say l))
 
-kept : {X : Type 0} (say : ScriptLine → List X) (lines : List ScriptLine) (l : ScriptLine) → say l ≡ [] → flat_map say (lines ++ l ∷ []) ≡ flat_map say lines
+pub kept : {L X : Type 0} (say : L → List X) (lines : List L) (l : L) → say l ≡ [] → flat_map say (lines ++ l ∷ []) ≡ flat_map say lines
 kept say lines l h = snoc say lines l ∙ (ap (λ t. flat_map say lines ++ t) h ∙ append-nil (flat_map say lines))
 
 last_append : {X : Type 0} (o : Option X) (xs ys : List X) → last_from o (xs ++ ys) ≡ last_from (last_from o xs) ys
 last_append o [] ys = refl
 last_append o (x ∷ xs) ys = last_append (Some x) xs ys
 
-end_append : (from : ℕ) (cs ds : List Choice) → end_after from (cs ++ ds) ≡ end_after (end_after from cs) ds
+pub end_append : (from : ℕ) (cs ds : List Choice) → end_after from (cs ++ ds) ≡ end_after (end_after from cs) ds
 end_append from [] ds = refl
 end_append from (c ∷ cs) ds = end_append (c.addr + length c.bytes) cs ds
 
@@ -40,7 +40,7 @@ last_more : {X : Type 0} (say : ScriptLine → List X) (lines : List ScriptLine)
 last_more say lines l old new h k =
     ap (λ t. last_from None t) (snoc say lines l) ∙ (last_append None (flat_map say lines) (say l) ∙ (ap (λ o. last_from o (say l)) h ∙ sym k))
 
-list_more : {X : Type 0} (say : ScriptLine → List X) (lines : List ScriptLine) (l : ScriptLine) (old new : List X) → flat_map say lines ≡ old → new ≡ old ++ say l
+pub list_more : {L X : Type 0} (say : L → List X) (lines : List L) (l : L) (old new : List X) → flat_map say lines ≡ old → new ≡ old ++ say l
     → flat_map say (lines ++ l ∷ []) ≡ new
 list_more say lines l old new h k = snoc say lines l ∙ (ap (λ t. t ++ say l) h ∙ sym k)
 
@@ -61,11 +61,11 @@ says_more lines l old new h k = record {
 
 -- ---- limits
 
-ascends_append : (from : ℕ) (cs ds : List Choice) → Ascends from cs → Ascends (end_after from cs) ds → Ascends from (cs ++ ds)
+pub ascends_append : (from : ℕ) (cs ds : List Choice) → Ascends from cs → Ascends (end_after from cs) ds → Ascends from (cs ++ ds)
 ascends_append from [] ds h k = k
 ascends_append from (c ∷ cs) ds h k = (h.0, ascends_append (c.addr + length c.bytes) cs ds h.1 k)
 
-ascends_split : (from : ℕ) (cs ds : List Choice) → Ascends from (cs ++ ds) → Ascends from cs × Ascends (end_after from cs) ds
+pub ascends_split : (from : ℕ) (cs ds : List Choice) → Ascends from (cs ++ ds) → Ascends from cs × Ascends (end_after from cs) ds
 ascends_split from [] ds h = (tt, h)
 ascends_split from (c ∷ cs) ds h = let parts = ascends_split (c.addr + length c.bytes) cs ds h.1 in ((h.0, parts.0), parts.1)
 

@@ -9,5 +9,9 @@ pub mod Said
 pub mod ScriptLines
 pub mod ScriptReading
 pub mod Scripts
+pub mod Shown
 pub mod Text
 pub mod TextLines
+pub mod TraceLines
+pub mod TraceReading
+pub mod Traces

@@ -11,6 +11,7 @@ mod reading;
 mod scripts;
 #[cfg(test)]
 mod tests;
+mod traces;
 
 pub use faults::ImageFault;
 pub use images::{Entry, Image};
@@ -21,3 +22,4 @@ pub use scripts::{
     InterpScript, RunScript, ScriptFault, one_interp_script_or_one_fault,
     one_run_script_or_one_fault, read_interp, read_run,
 };
+pub use traces::{TraceFault, one_trace_or_one_fault, read_trace};

@@ -1,10 +1,10 @@
 // Scripts: what a run of an image or of a source text is started with.
 
-mod fields;
+pub(crate) mod fields;
 mod laws;
 pub(crate) mod lines;
 mod order;
-mod parsing;
+pub(crate) mod parsing;
 mod reading;
 mod said;
 #[cfg(test)]

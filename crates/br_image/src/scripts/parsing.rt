@@ -165,7 +165,7 @@ fn end_line(tail: &[u8]) -> Option<ScriptLine>
 }
 
 /// An address and the bytes from there on.
-fn parse_buffer(alloc: Global, tail: &[u8]) -> Result<Option<Choice>, NoMemory>
+pub(crate) fn parse_buffer(alloc: Global, tail: &[u8]) -> Result<Option<Choice>, NoMemory>
     ensures some { IfOk result (λ o. IfSome o (λ c. IsBuffer c × (tail.now ≡ range_fields c))) }
     ensures none { IfOk result (λ o. IfNone o ((c : Choice) → IsBuffer c → tail.now ≢ range_fields c)) }
 {
@@ -179,7 +179,7 @@ fn parse_buffer(alloc: Global, tail: &[u8]) -> Result<Option<Choice>, NoMemory>
 }
 
 /// Whether a buffer has bytes and lies in the data region.
-fn is_range(c: &Choice) -> bool
+pub(crate) fn is_range(c: &Choice) -> bool
     requires { IsBuffer c.now }
     ensures { IsTrue result ↔ IsRange c.now }
 {
