@@ -10,10 +10,10 @@ use Rattle.br_source_meaning.specs.Values.{Name, value}
 use Rattle.br_source_meaning.specs.Runs.{Callee, State, End, Run, Goes, Ends, then_do, with_defined, choose, with_fuel, with_locals, back_in, run, run_all}
 use Rattle.br_source_meaning.specs.Calls.{enter, function_of, run_function}
 use Rattle.br_bytes.specs.Left.{OnlyTakes}
-use Rattle.br_bytes.proofs.Widens.{AlikeCalls, fuel-goes}
+use Rattle.br_bytes.proofs.Widens.{AlikeCalls}
 use Rattle.br_bytes.proofs.Given.{none, widen-none, same-alike_calls}
 use Rattle.br_source_meaning.specs.Running.{deep_calls}
-use Rattle.br_source_meaning.proofs.Leaves.{leaves-run_all, leaves-function_of}
+use Rattle.br_source_meaning.proofs.Leaves.{leaves-function_of}
 use Rattle.br_source_meaning.proofs.Widens.{alike-run_function, alike-deeper}
 use Rattle.br_source_meaning.proofs.Bounds.{unfold-while, unfold-function_of}
 

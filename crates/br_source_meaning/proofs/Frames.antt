@@ -1,7 +1,7 @@
 -- Lemmas on work that is pending.
 use Rattle.std.proofs.Common.{◌≡◌, ℕ, List, [], ◌∷◌, ◌++◌, Option, Bor, Result, Ok, Err, refl, sym, ap, ◌∙◌}
 use Rattle.br_syntax.specs.declared.program.Cmd.{Cmd}
-use Rattle.br_source_meaning.specs.Runs.{State, End, Run, Goes, Ends, then_do, with_fuel, Callee, with_locals, back_in, run, run_all}
+use Rattle.br_source_meaning.specs.Runs.{State, End, Run, Goes, Ends, then_do, with_fuel, Callee, with_locals, back_in, run_all}
 use Rattle.br_source_meaning.specs.Values.{Name, Locals}
 use Rattle.br_source_meaning.specs.Calls.{words_of, returned}
 use Rattle.br_source_meaning.specs.Variables.{locals_of}

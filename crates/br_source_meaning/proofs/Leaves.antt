@@ -1,6 +1,6 @@
 -- What runs of the source leave: the earlier events stay, answers and choices are taken from the front,
 -- and fuel does not grow.
-use Rattle.std.proofs.Common.{◌≡◌, ℕ, zero, suc, ◌==◌, List, [], ◌∷◌, map, Option, Some, None, sym, subst, codes}
+use Rattle.std.proofs.Common.{ℕ, zero, suc, ◌==◌, List, [], ◌∷◌, map, Option, Some, None, sym, subst, codes}
 use Rattle.std.specs.Str.{bytes_eq}
 use Rattle.br_words.specs.Size.{size_of}
 use Rattle.br_bytes.specs.Memory.{put_number}

@@ -5,3 +5,4 @@ pub mod Bounds
 pub mod Kept
 pub mod Deep
 pub mod Frames
+pub mod Named

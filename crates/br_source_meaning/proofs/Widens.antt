@@ -1,5 +1,5 @@
 -- Two runs of the source from states that differ by what the second has more.
-use Rattle.std.proofs.Common.{◌≡◌, ℕ, zero, suc, ◌+◌, ◌≤◌, ◌==◌, List, [], ◌∷◌, map, Option, Some, None, inl, refl, sym, subst, codes, arith}
+use Rattle.std.proofs.Common.{ℕ, zero, suc, ◌+◌, ◌≤◌, ◌==◌, List, [], ◌∷◌, map, Option, Some, None, inl, refl, sym, subst, codes, arith}
 use Rattle.std.specs.Str.{bytes_eq}
 use Rattle.br_words.specs.Size.{size_of}
 use Rattle.br_bytes.specs.Memory.{put_number}

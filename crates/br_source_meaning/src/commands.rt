@@ -1,9 +1,7 @@
 // Commands by work that is pending: neither bodies nor calls are done by recursion.
 
 ghost use Rattle.std.specs.Prelude.{◌≡◌, ◌+◌, ◌^◌, ◌<◌, IfOk};
-ghost use Rattle.std.specs.Option.{option_copied};
 ghost use Rattle.br_syntax.specs.declared.program.Cmd.TheVariants.{While};
-ghost use Rattle.br_syntax.specs.Functions.{function_named};
 ghost use Rattle.br_bytes.specs.Left.{OnlyTakes};
 ghost use Rattle.br_source_meaning.specs.Runs.{Callee, Goes, run, run_all};
 ghost use Rattle.br_source_meaning.specs.Calls.{run_function};
@@ -11,6 +9,7 @@ ghost use Rattle.br_source_meaning.specs.Running.{state_of, deep_calls, Leads, L
 ghost use Rattle.br_source_meaning.specs.Pending.{resume, finish, begins, LeavesWork, Resumes, Pauses, Starts, weight, frame_weight, weigh, room};
 ghost use Rattle.br_source_meaning.specs.declared.pending.Turn.TheVariants as turn;
 
+use crate::functions::Functions;
 use crate::pending::{Frame, Turn, Work, lay_down};
 use crate::running::{Running, Stop};
 use crate::variables::Variables;
@@ -131,17 +130,17 @@ impl<'a> Running<'a> {
     fn enter(
         &mut self,
         alloc: Global,
-        funcs: &'a [Func],
+        functions: &Functions<'a>,
         pending: &mut Items<Frame<'a>>,
         to: &'a [Name],
         callee: &'a Name,
         words: Items<u32>,
     ) -> Result<(), OrMemory<Stop>>
         requires { self.old.fuel < 2 ^ 32 }
-        ensures starts { Starts result (deep_calls funcs.now) self.new pending.new pending.old (begins (deep_calls funcs.now) (turn.Call to.entry callee.entry words) (state_of self.old)) }
+        ensures starts { Starts result (deep_calls functions.now.funcs.now) self.new pending.new pending.old (begins (deep_calls functions.now.funcs.now) (turn.Call to.entry callee.entry words) (state_of self.old)) }
         ensures fuel { self.new.fuel ≡ self.old.fuel }
     {
-        let Some(f) = function_named(funcs, callee) else {
+        let Some(f) = functions.named(callee) else {
             return Err(OrMemory::Fault(Stop::Undefined));
         };
         let caller = mem::replace(&mut self.variables, Variables::new(alloc));
@@ -159,12 +158,12 @@ impl<'a> Running<'a> {
     fn begin(
         &mut self,
         alloc: Global,
-        funcs: &'a [Func],
+        functions: &Functions<'a>,
         pending: &mut Items<Frame<'a>>,
         turn: Turn<'a>,
     ) -> Result<(), OrMemory<Stop>>
         requires { self.old.fuel < 2 ^ 32 }
-        ensures starts { Starts result (deep_calls funcs.now) self.new pending.new pending.old (begins (deep_calls funcs.now) turn.entry (state_of self.old)) }
+        ensures starts { Starts result (deep_calls functions.now.funcs.now) self.new pending.new pending.old (begins (deep_calls functions.now.funcs.now) turn.entry (state_of self.old)) }
         ensures fuel { self.new.fuel ≡ self.old.fuel }
     {
         match turn {
@@ -173,7 +172,9 @@ impl<'a> Running<'a> {
                 pending.push(Frame::Body(body))?;
                 Ok(())
             }
-            Turn::Call(to, callee, words) => self.enter(alloc, funcs, pending, to, callee, words),
+            Turn::Call(to, callee, words) => self.enter(
+                alloc, functions, pending, to, callee, words,
+            ),
         }
     }
 
@@ -181,16 +182,16 @@ impl<'a> Running<'a> {
     fn commands(
         &mut self,
         alloc: Global,
-        funcs: &'a [Func],
+        functions: &Functions<'a>,
         cs: &'a [Cmd],
     ) -> Result<(), OrMemory<Stop>>
-        ensures { Leads result self.new (run_all (deep_calls funcs.now) cs.now (state_of self.old)) }
+        ensures { Leads result self.new (run_all (deep_calls functions.now.funcs.now) cs.now (state_of self.old)) }
     {
         let mut pending = Items::new(alloc);
         pending.push(Frame::Body(cs))?;
         while let Some(turn) = self.until_turn(alloc, &mut pending)? {
             self.spend()?;
-            self.begin(alloc, funcs, &mut pending, turn)?;
+            self.begin(alloc, functions, &mut pending, turn)?;
         }
         Ok(())
     }
@@ -199,22 +200,15 @@ impl<'a> Running<'a> {
     pub(crate) fn function(
         &mut self,
         alloc: Global,
-        funcs: &'a [Func],
+        functions: &Functions<'a>,
         f: &'a Func,
         args: &[u32],
     ) -> Result<Items<u32>, OrMemory<Stop>>
-        ensures { LeadsBack result self.new (run_function (deep_calls funcs.now) f.now args.now (state_of self.old)) }
+        ensures { LeadsBack result self.new (run_function (deep_calls functions.now.funcs.now) f.now args.now (state_of self.old)) }
     {
         self.variables = Variables::new(alloc);
         self.variables.set_all(f.args.as_slice(), args)?;
-        self.commands(alloc, funcs, f.body.as_slice())?;
+        self.commands(alloc, functions, f.body.as_slice())?;
         self.results(alloc, f.results.as_slice())
     }
-}
-
-// The first function of a name.
-fn function_named<'a>(funcs: &'a [Func], name: &Name) -> Option<&'a Func>
-    ensures { option_copied result ≡ function_named funcs.now name.now }
-{
-    funcs.iter().find(|f| f.name.bytes() == name.bytes())
 }

@@ -4,6 +4,7 @@ ghost use Rattle.std.specs.Prelude.{◌≡◌, ◌<◌, length, slice_get, Some,
 ghost use Rattle.br_source_meaning.specs.Calls.{call};
 ghost use Rattle.br_source_meaning.specs.Finished.{called_of, outcome_at};
 
+use crate::functions::Functions;
 use crate::running::{Running, Stop};
 use crate::variables::Variables;
 use br_base::{NoMemory, OrMemory};
@@ -73,7 +74,7 @@ impl<'a> Interp<'a> {
         ensures { IfOk result (λ done. called_of done ≡ call self.entry.program.now.funcs self.entry.func.now self.entry.args.now self.entry.memory self.entry.answers.now self.entry.choices.now fuel) }
     {
         let alloc = self.alloc;
-        let funcs = self.program.funcs.as_slice();
+        let functions = Functions::new(alloc, self.program.funcs.as_slice())?;
         let mut running = Running {
             variables: Variables::new(alloc),
             memory: self.memory,
@@ -82,7 +83,7 @@ impl<'a> Interp<'a> {
             choices: self.choices,
             fuel,
         };
-        let outcome = match running.function(alloc, funcs, self.func, self.args) {
+        let outcome = match running.function(alloc, &functions, self.func, self.args) {
             Ok(words) => Outcome::Done(words),
             Err(OrMemory::Fault(stop)) => outcome_at(stop),
             Err(OrMemory::Memory) => return Err(NoMemory),

@@ -2,6 +2,7 @@
 #![tactic(auto)]
 
 mod commands;
+mod functions;
 mod held;
 mod interp;
 mod laws;

@@ -199,5 +199,8 @@ fn can_stand(c: &Choice, n: u32) -> bool
     ensures { result ≡ can_stand n c.now }
 {
     let end = c.addr as u64 + n as u64;
-    c.addr % 4 == 0 && c.bytes.len() == n as usize && STACK_BASE <= c.addr && end <= STACK_END as u64
+    c.addr % 4 == 0
+        && c.bytes.len() == n as usize
+        && STACK_BASE <= c.addr
+        && end <= STACK_END as u64
 }

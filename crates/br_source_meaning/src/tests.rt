@@ -263,7 +263,11 @@ fn repeated(alloc: Global, first: &str, part: &str, n: u32, last: &str) -> Resul
 fn chain(alloc: Global, calls: u32) -> Result<String, Fail> {
     let mut text = String::new(alloc);
     for i in 0..calls {
-        write!(text, "(fn f{i} () (r) (seq (call (r) f{})))", u64::from(i) + 1)?;
+        write!(
+            text,
+            "(fn f{i} () (r) (seq (call (r) f{})))",
+            u64::from(i) + 1
+        )?;
     }
     write!(text, "(fn f{calls} () (r) (set r 7))")?;
     Ok(text)

@@ -11,8 +11,9 @@ pub returns : goal.returns
 returns c =
     let start : State = record { locals = no_locals; memory = c.args.self.memory; trace = []; answers = c.args.self.answers.now; choices = c.args.self.choices.now; fuel = c.args.fuel } in
     let same = ap seen (deep-function c.args.self.program.now.funcs c.args.self.func.now c.args.self.args.now start (omega arith)) in
-    let begun = ap (λ fs. run_function (deep_calls fs) c.args.self.func.now c.args.self.args.now start) (sym c.as_slice-funcs.ensures)
-    ∙ ap (λ events. run_function (deep_calls c.as_slice-funcs.result.now) c.args.self.func.now c.args.self.args.now (record start { trace = events })) (sym c.new-2.ensures) in
+    let funcs : c.in_ok-functions.functions.funcs.now ≡ c.args.self.program.now.funcs = c.in_ok-functions.ensures ∙ c.as_slice.ensures in
+    let begun = ap (λ fs. run_function (deep_calls fs) c.args.self.func.now c.args.self.args.now start) (sym funcs)
+    ∙ ap (λ events. run_function (deep_calls c.in_ok-functions.functions.funcs.now) c.args.self.func.now c.args.self.args.now (record start { trace = events })) (sym c.new-3.ensures) in
     elim c.match-function.branch [
       | in-Ok w ↦
           let ran : run_function (deep_calls c.args.self.program.now.funcs) c.args.self.func.now c.args.self.args.now start ≡ Returns w.in-Ok.words (state_of c.function.new.self) = begun ∙ w.in-Ok.ensures in

@@ -9,7 +9,7 @@ use Rattle.br_source_meaning.proofs.running.Running.begin.Goals as goal
 
 pub returns-in_ok-push-in-Loop-2-clause-starts : goal.returns-in_ok-push-in-Loop-2-clause-starts
 returns-in_ok-push-in-Loop-2-clause-starts c =
-    let call : Callee = deep_calls c.args.funcs.now in
+    let call : Callee = deep_calls c.args.functions.now.funcs.now in
     let s : State = state_of c.args.self.now in
     let mid : c.push.new.self ≡ c.args.pending.now ++ frame.Loop c.in-Loop.e c.in-Loop.body ∷ [] = grind (arith, common_steps) in
     let new : c.push-in-Loop.new.self ≡ c.push.new.self ++ frame.Body c.in-Loop.body ∷ [] = grind (arith, common_steps) in

@@ -7,8 +7,8 @@ use Rattle.br_source_meaning.proofs.running.Running.commands.Given as goal
 
 abbrev pub invariant-loop-pending : goal.invariant-loop-pending
 invariant-loop-pending l =
-    run_all (deep_calls l.funcs) l.cs (state_of l.fn.self)
-    ≡ finish (deep_calls l.funcs) l.pending (Goes (state_of l.self))
+    run_all (deep_calls l.functions.funcs.now) l.cs (state_of l.fn.self)
+    ≡ finish (deep_calls l.functions.funcs.now) l.pending (Goes (state_of l.self))
 
 abbrev pub decreases-loop-pending : goal.decreases-loop-pending
 decreases-loop-pending l = l.self.fuel

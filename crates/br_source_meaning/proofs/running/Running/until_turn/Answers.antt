@@ -29,9 +29,9 @@ loop-frame-preserved c =
     let none : c.in_ok-turn.field-0 ≡ None = grind (arith, common_steps) in
     record {
       same = λ call h.
-        c.loop-frame.invariant.same call h
-        ∙ pushed call c.pop.new.self c.loop-frame.pending c.in-Some.frame (Goes (state_of c.loop-frame.self)) popped
-        ∙ c.in_ok-work.ensures.leads call h
-        ∙ subst (λ o. IsLaidDown (Ok o) call c.lay_down.new.pending c.resume.new.pending c.in_ok-work.work (state_of c.resume.new.self)) none (c.in_ok-turn.ensures.same call (state_of c.resume.new.self));
+          c.loop-frame.invariant.same call h
+          ∙ pushed call c.pop.new.self c.loop-frame.pending c.in-Some.frame (Goes (state_of c.loop-frame.self)) popped
+          ∙ c.in_ok-work.ensures.leads call h
+          ∙ subst (λ o. IsLaidDown (Ok o) call c.lay_down.new.pending c.resume.new.pending c.in_ok-work.work (state_of c.resume.new.self)) none (c.in_ok-turn.ensures.same call (state_of c.resume.new.self));
       fuel = omega (arith, c.loop-frame.invariant.fuel, c.in_ok-work.ensures.fuel);
     }

@@ -9,7 +9,7 @@ use Rattle.br_source_meaning.proofs.running.Running.until_turn.Given as goal
 abbrev pub invariant-loop-frame : goal.invariant-loop-frame
 invariant-loop-frame l = record {
   same : (call : Callee) → OnlyTakes call → finish call l.fn.pending (Goes (state_of l.fn.self)) ≡ finish call l.pending (Goes (state_of l.self));
-  fuel : l.self.fuel ≡ l.fn.self.fuel
+  fuel : l.self.fuel ≡ l.fn.self.fuel;
 }
 
 abbrev pub decreases-loop-frame : goal.decreases-loop-frame
