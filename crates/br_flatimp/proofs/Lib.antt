@@ -6,7 +6,7 @@ pub mod Renamed
 pub mod Programs
 pub mod Uniform
 pub mod Forgetting
-pub mod Tests
+pub mod Decided
 pub mod Leaves
 pub mod Widens
 pub mod Given

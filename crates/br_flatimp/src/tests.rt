@@ -85,14 +85,9 @@ fn statements_in_range(rt: HostRuntime) -> Result<(), Fail> {
         (within(alloc, Stmt::Lit(3, 0))?, true),
         (within(alloc, Stmt::Lit(4, 0))?, false),
     ];
-    let mut row = 0;
     for (s, expected) in rows {
-        assert_eq!(rt;
-            well_formed(&program_with(alloc, s)?),
-            expected,
-            "row {row}"
-        );
-        row += 1;
+        let p = program_with(alloc, s)?;
+        assert_eq!(rt; well_formed(&p), expected, "{p:?}");
     }
     Ok(())
 }

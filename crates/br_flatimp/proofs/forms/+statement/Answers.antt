@@ -1,5 +1,5 @@
 use Rattle.std.proofs.Common.{arith}
-use Rattle.br_flatimp.proofs.Tests.{whole}
+use Rattle.br_flatimp.proofs.Decided.{whole}
 use Rattle.br_flatimp.proofs.forms.+statement.Goals as goal
 
 pub statement_fits-returns-then-not-statements_fit : goal.statement_fits-returns-then-not-statements_fit

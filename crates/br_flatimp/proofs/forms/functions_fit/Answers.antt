@@ -1,7 +1,7 @@
 use Rattle.std.proofs.Common.{◌&&◌, ap, sym, ◌∙◌}
 use Rattle.std.specs.List.{list_all}
 use Rattle.br_flatimp.specs.WellFormed.{is_well_formed_head, is_well_formed_statement}
-use Rattle.br_flatimp.proofs.Tests.{all-both}
+use Rattle.br_flatimp.proofs.Decided.{all-both}
 use Rattle.br_flatimp.proofs.forms.functions_fit.Goals as goal
 
 pub returns-then-heads_fit : goal.returns-then-heads_fit
