@@ -1,0 +1,209 @@
+-- The flat statements of expressions, commands, functions and programs. A variable's number is the place of
+-- its name in a list of names; the numbers from the length of that list on are temporaries. Each word of an
+-- expression goes to a temporary or straight to the variable that is set, and a variable is used where it is.
+use Rattle.std.specs.Prelude.{ℕ, zero, suc, max, Bool, true, false, ◌||◌, ◌&&◌, List, [], ◌∷◌, ◌++◌, map, length, Option, Some, None, pos, if◌then◌else◌, codes}
+use Rattle.std.specs.List.{flat_map, list_all}
+use Rattle.std.specs.Str.{bytes_eq}
+use Rattle.br_syntax.specs.declared.program.Expr.{Expr}
+use Rattle.br_syntax.specs.declared.program.Expr.TheOpen.{Expr-F}
+use Rattle.br_syntax.specs.declared.program.Expr.TheFolds.{fold-Expr}
+use Rattle.br_syntax.specs.declared.program.Cmd.{Cmd}
+use Rattle.br_syntax.specs.declared.program.Cmd.TheOpen.{Cmd-F}
+use Rattle.br_syntax.specs.declared.program.Cmd.TheFolds.{fold-Cmd}
+use Rattle.br_syntax.specs.declared.program.Func.{Func}
+use Rattle.br_source_meaning.specs.Values.{Name}
+use Rattle.br_flatimp.specs.declared.program.Operand.TheVariants as operand
+use Rattle.br_flatimp.specs.declared.program.Cond.TheVariants.{NonZero}
+use Rattle.br_flatimp.specs.declared.program.Stmt.{Stmt}
+use Rattle.br_flatimp.specs.declared.program.Stmt.TheOpen.{Stmt-F}
+use Rattle.br_flatimp.specs.declared.program.Stmt.TheViews.{roll-Stmt}
+use Rattle.br_flatimp.specs.declared.program.FlatFunc.{FlatFunc}
+use Rattle.br_flatimp.specs.Parts.{statement_names}
+
+-- ---- names
+
+-- the place of a name in a list, and the length of the list where it is not there
+abbrev pub number : List Name → Name → ℕ
+number [] x = 0
+number (y ∷ ys) x = if bytes_eq y x then 0 else suc (number ys x)
+
+abbrev pub is_listed : List Name → Name → Bool
+is_listed [] x = false
+is_listed (y ∷ ys) x = bytes_eq y x || is_listed ys x
+
+-- each variable of an expression, of a command or of a function is in a list
+
+abbrev pub lists_step : List Name → Expr-F Bool → Bool
+lists_step names (Expr-F.Literal n) = true
+lists_step names (Expr-F.Var x) = is_listed names x
+lists_step names (Expr-F.Load size a) = a
+lists_step names (Expr-F.Table size bytes i) = i
+lists_step names (Expr-F.Op op a b) = a && b
+lists_step names (Expr-F.Ite test a b) = test && (a && b)
+
+abbrev pub lists_expression : List Name → Expr → Bool
+lists_expression names = fold-Expr Bool (lists_step names)
+
+abbrev pub lists_expressions : List Name → List Expr → Bool
+lists_expressions names = list_all (lists_expression names)
+
+abbrev pub lists_names : List Name → List Name → Bool
+lists_names names = list_all (is_listed names)
+
+abbrev pub lists_command_step : List Name → Cmd-F Bool → Bool
+lists_command_step names Cmd-F.Skip = true
+lists_command_step names (Cmd-F.Set x e) = is_listed names x && lists_expression names e
+lists_command_step names (Cmd-F.Unset x) = true
+lists_command_step names (Cmd-F.Store size a e) = lists_expression names a && lists_expression names e
+lists_command_step names (Cmd-F.Stackalloc x n body) = is_listed names x && list_all (λ ok. ok) body
+lists_command_step names (Cmd-F.If e first second) =
+    lists_expression names e && (list_all (λ ok. ok) first && list_all (λ ok. ok) second)
+lists_command_step names (Cmd-F.While e body) = lists_expression names e && list_all (λ ok. ok) body
+lists_command_step names (Cmd-F.Seq body) = list_all (λ ok. ok) body
+lists_command_step names (Cmd-F.Call at xs callee es) = lists_names names xs && lists_expressions names es
+lists_command_step names (Cmd-F.Interact at xs action es) = lists_names names xs && lists_expressions names es
+
+abbrev pub lists_command : List Name → Cmd → Bool
+lists_command names = fold-Cmd Bool (lists_command_step names)
+
+abbrev pub lists_function : List Name → Func → Bool
+lists_function names f = lists_names names f.args && (lists_names names f.results && list_all (lists_command names) f.body)
+
+-- ---- expressions
+
+-- an expression, as statements
+pub record Flat : Type 0 where
+  -- the number of the variable that it is, where it is one
+  pub variable : Option ℕ
+  -- the statements that set a name to its word, where the temporaries from a number on are free
+  pub into : ℕ → ℕ → List Stmt
+
+-- where the word of an operand stands: in its variable, or in the first free temporary
+abbrev pub place : Option ℕ → ℕ → ℕ
+place (Some y) free = y
+place None free = free
+
+-- the first temporary that is free after an operand
+abbrev pub next : Option ℕ → ℕ → ℕ
+next (Some y) free = free
+next None free = suc free
+
+-- an operand's statements: none where it is a variable
+abbrev pub unless_variable : Option ℕ → List Stmt → List Stmt
+unless_variable (Some y) body = []
+unless_variable None body = body
+
+abbrev pub code : Flat → ℕ → List Stmt
+code e free = unless_variable e.variable (e.into free (suc free))
+
+-- an expression, given the statements of its parts
+abbrev pub expression_step : List Name → Expr-F Flat → Flat
+expression_step names (Expr-F.Literal n) =
+    record { variable = None; into = λ x free. roll-Stmt (Stmt-F.Lit x n) ∷ [] }
+expression_step names (Expr-F.Var y) =
+    record { variable = Some (number names y); into = λ x free. roll-Stmt (Stmt-F.Copy x (number names y)) ∷ [] }
+expression_step names (Expr-F.Load size a) = record {
+  variable = None;
+  into = λ x free. code a free ++ roll-Stmt (Stmt-F.Load x size (place a.variable free) (pos 0)) ∷ [];
+}
+expression_step names (Expr-F.Table size bytes i) = record {
+  variable = None;
+  into = λ x free. code i free ++ roll-Stmt (Stmt-F.Table x size bytes (place i.variable free)) ∷ [];
+}
+expression_step names (Expr-F.Op op a b) = record {
+  variable = None;
+  into = λ x free. code a free ++ (code b (next a.variable free)
+      ++ roll-Stmt (Stmt-F.Op x op (place a.variable free) (operand.Name (place b.variable (next a.variable free)))) ∷ []);
+}
+expression_step names (Expr-F.Ite test a b) = record {
+  variable = None;
+  into = λ x free. code test free
+      ++ roll-Stmt (Stmt-F.If (NonZero (place test.variable free)) (a.into x free) (b.into x free)) ∷ [];
+}
+
+abbrev pub expression : List Name → Expr → Flat
+expression names = fold-Expr Flat (expression_step names)
+
+-- operands in turn: their statements, and where their words stand
+
+abbrev pub codes_of : List Flat → ℕ → List Stmt
+codes_of [] free = []
+codes_of (e ∷ es) free = code e free ++ codes_of es (next e.variable free)
+
+abbrev pub places_of : List Flat → ℕ → List ℕ
+places_of [] free = []
+places_of (e ∷ es) free = place e.variable free ∷ places_of es (next e.variable free)
+
+-- ---- commands
+
+abbrev pub joined : List (List Stmt) → List Stmt
+joined = flat_map (λ body. body)
+
+-- a read or a write of a device word, by the numbers of its variables and the places of its arguments
+abbrev pub read_statements : List ℕ → List ℕ → List Stmt
+read_statements (x ∷ []) (y ∷ []) = roll-Stmt (Stmt-F.Read x y) ∷ []
+read_statements xs ys = []
+
+abbrev pub write_statements : List ℕ → List ℕ → List Stmt
+write_statements [] (y ∷ z ∷ []) = roll-Stmt (Stmt-F.Write y z) ∷ []
+write_statements xs ys = []
+
+abbrev pub device_statements : Name → List ℕ → List ℕ → List Stmt
+device_statements action xs ys =
+    if bytes_eq action (codes "MMIOREAD") then read_statements xs ys else write_statements xs ys
+
+-- the number of the first function of a name
+abbrev pub callee_number : List Func → Name → ℕ
+callee_number fs = number (map (λ f. f.name) fs)
+
+-- a command, given the statements of the commands in it; no temporary is in use between commands
+abbrev pub command_step : List Func → List Name → Cmd-F (List Stmt) → List Stmt
+command_step fs names Cmd-F.Skip = []
+command_step fs names (Cmd-F.Set x e) = (expression names e).into (number names x) (length names)
+command_step fs names (Cmd-F.Unset x) = []
+command_step fs names (Cmd-F.Store size a e) = store (expression names a) (expression names e) (length names)
+  where
+    store : Flat → Flat → ℕ → List Stmt
+    store a e free = code a free ++ (code e (next a.variable free)
+        ++ roll-Stmt (Stmt-F.Store size (place a.variable free) (place e.variable (next a.variable free)) (pos 0)) ∷ [])
+command_step fs names (Cmd-F.Stackalloc x n body) = roll-Stmt (Stmt-F.Stackalloc (number names x) n (joined body)) ∷ []
+command_step fs names (Cmd-F.If e first second) =
+    code (expression names e) (length names)
+    ++ roll-Stmt (Stmt-F.If (NonZero (place (expression names e).variable (length names))) (joined first) (joined second)) ∷ []
+command_step fs names (Cmd-F.While e body) =
+    roll-Stmt (Stmt-F.Loop (code (expression names e) (length names)) (NonZero (place (expression names e).variable (length names))) (joined body)) ∷ []
+command_step fs names (Cmd-F.Seq body) = joined body
+command_step fs names (Cmd-F.Call at xs callee es) =
+    codes_of (map (expression names) es) (length names)
+    ++ roll-Stmt (Stmt-F.Call (map (number names) xs) (callee_number fs callee) (places_of (map (expression names) es) (length names))) ∷ []
+command_step fs names (Cmd-F.Interact at xs action es) =
+    codes_of (map (expression names) es) (length names)
+    ++ device_statements action (map (number names) xs) (places_of (map (expression names) es) (length names))
+
+-- the statements of a command
+abbrev pub command : List Func → List Name → Cmd → List Stmt
+command fs names = fold-Cmd (List Stmt) (command_step fs names)
+
+abbrev pub commands : List Func → List Name → List Cmd → List Stmt
+commands fs names cs = joined (map (command fs names) cs)
+
+-- ---- functions and programs
+
+-- the least number above those of a list
+abbrev pub above : List ℕ → ℕ
+above [] = 0
+above (x ∷ xs) = max (suc x) (above xs)
+
+-- a function of a program, with its names numbered by a list
+abbrev pub flat_function : List Func → List Name → Func → FlatFunc
+flat_function fs names f = record {
+  name = f.name;
+  args = map (number names) f.args;
+  results = map (number names) f.results;
+  names = above (map (number names) f.args ++ (map (number names) f.results ++ flat_map statement_names (commands fs names f.body)));
+  body = commands fs names f.body;
+}
+
+-- a program, where `listed` gives the names of each function
+abbrev pub flat_program : (Func → List Name) → List Func → List FlatFunc
+flat_program listed fs = map (λ f. flat_function fs (listed f) f) fs

@@ -1,0 +1,2 @@
+//! From the source language to flat programs.
+#![tactic(auto)]
