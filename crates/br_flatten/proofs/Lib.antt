@@ -1,2 +1,4 @@
 pub mod Numbers
 pub mod Expressions
+pub mod Pieces
+pub mod Commands
