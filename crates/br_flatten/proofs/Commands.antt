@@ -1,12 +1,12 @@
 -- The statements of a command match it: from related states they come to related states with the same end.
-use Rattle.std.proofs.Common.{◌≡◌, ℕ, zero, suc, ◌<◌, ◌≤◌, ◌==◌, ◌&&◌, Bool, true, false, if◌then◌else◌, List, [], ◌∷◌, ◌++◌, map, length, Option, Some, None, inr, refl, sym, ap, subst, ◌∙◌, arith, pos}
+use Rattle.std.proofs.Common.{◌≡◌, ℕ, ◌<◌, ◌≤◌, ◌==◌, ◌&&◌, Bool, true, false, if◌then◌else◌, List, [], ◌∷◌, ◌++◌, map, length, Option, Some, None, inr, refl, sym, ap, subst, ◌∙◌, arith, pos}
 use Rattle.std.specs.List.{list_all}
 use Rattle.std.proofs.lemmas.Bool.Decides.{Decides-eqb}
 use Rattle.br_words.specs.declared.size.Size.{Size}
 use Rattle.br_words.specs.Size.{size_of}
-use Rattle.br_bytes.specs.Memory.{Memory, get_number, put_number, with_bytes}
+use Rattle.br_bytes.specs.Memory.{put_number, with_bytes}
 use Rattle.br_bytes.specs.Buffers.{is_good, without_range}
-use Rattle.br_bytes.specs.Runs.{Goes, Ends, then_do, in_turn, with_defined, choose, with_fuel, with_buffer, loop, back_in, Returned, Returns}
+use Rattle.br_bytes.specs.Runs.{Goes, then_do, in_turn, with_defined, choose, with_fuel, with_buffer, loop, back_in, Returns}
 use Rattle.br_syntax.specs.declared.program.Expr.{Expr}
 use Rattle.br_syntax.specs.declared.program.Cmd.{Cmd, map-Cmd}
 use Rattle.br_syntax.specs.declared.program.Cmd.TheOpen.{Cmd-F}
@@ -22,13 +22,13 @@ use Rattle.br_flatimp.specs.declared.program.Cond.TheVariants.{NonZero}
 use Rattle.br_flatimp.specs.declared.program.Stmt.{Stmt}
 use Rattle.br_flatimp.specs.declared.program.Stmt.TheOpen.{Stmt-F}
 use Rattle.br_flatimp.specs.declared.program.Stmt.TheViews.{roll-Stmt}
-use Rattle.br_flatimp.specs.Values.{Locals, with_local, with_locals, words_of, moved}
-use Rattle.br_flatimp.specs.Matches.{SameOutside, Beside, Matches, CallMatches, IsSameDefined}
+use Rattle.br_flatimp.specs.Values.{Locals, with_local, with_locals, moved}
+use Rattle.br_flatimp.specs.Matches.{SameOutside, CallMatches}
 use Rattle.br_flatimp.specs.Runs.{State, Run, Callee}
 use Rattle.br_flatimp.proofs.Matches.{matches-then_do, matches-with_defined, matches-choose, matches-with_fuel, given, matches-with_buffer, matches-back_in}
 use Rattle.br_flatten.specs.Flatten.{number, is_listed, lists_names, lists_expression, lists_expressions, lists_command_step, lists_command, place, next, code, codes_of, places_of, device_statements, expression, joined, callee_number, command_step, command}
 use Rattle.br_flatten.proofs.Numbers.{and-first, and-second}
-use Rattle.br_flatten.proofs.Expressions.{does, does-append, does-after, does-one, Holds, holds-kept, Placed, placed, expression_claim}
+use Rattle.br_flatten.proofs.Expressions.{does, does-append, does-after, does-one, holds-kept, Placed, placed, expression_claim}
 use Rattle.br_flatten.proofs.Pieces.{At, Out, AtMatches, at-locals, matches-source, matches-from, holds-changed, holds-set, holds-unset, holds-set_all, put-moved, all_placed, length-values, device-matches, Tested, while-matches}
 
 -- ---- faults

@@ -1,6 +1,6 @@
 -- The statements of an expression set a name to its word where it has one, and change no other name but the
 -- temporaries that were free.
-use Rattle.std.proofs.Common.{◌≡◌, ◌≢◌, ◌⊎◌, inl, inr, ℕ, zero, suc, ◌<◌, ◌≤◌, ◌==◌, ◌&&◌, Bool, true, false, if◌then◌else◌, List, [], ◌∷◌, ◌++◌, map, length, Option, Some, None, refl, sym, ap, subst, ◌∙◌, arith, pos}
+use Rattle.std.proofs.Common.{◌≡◌, ◌≢◌, inl, inr, ℕ, suc, ◌<◌, ◌≤◌, ◌==◌, ◌&&◌, Bool, true, false, if◌then◌else◌, List, [], ◌∷◌, ◌++◌, length, Option, Some, None, refl, sym, ap, subst, ◌∙◌, arith, pos}
 use Rattle.std.specs.Option.{option_map, option_and_then}
 use Rattle.br_words.specs.declared.size.Size.{Size}
 use Rattle.br_words.specs.declared.operation.BinOp.{BinOp}
@@ -9,7 +9,7 @@ use Rattle.br_words.specs.Words.{value_of_op}
 use Rattle.br_bytes.specs.Number.{number_of}
 use Rattle.br_bytes.specs.Memory.{Memory, get_number}
 use Rattle.br_bytes.specs.Buffers.{table_number}
-use Rattle.br_bytes.specs.Runs.{Goes, Ends, then_do, in_turn, with_defined, choose}
+use Rattle.br_bytes.specs.Runs.{Goes, Ends, then_do, with_defined, choose}
 use Rattle.br_syntax.specs.declared.program.Expr.{Expr, map-Expr}
 use Rattle.br_syntax.specs.declared.program.Expr.TheOpen.{Expr-F}
 use Rattle.br_syntax.specs.declared.program.Expr.TheViews.{roll-Expr}

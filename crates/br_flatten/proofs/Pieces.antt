@@ -1,21 +1,18 @@
 -- Pieces of commands in flat statements: operands in turn, devices, variables that are set, and loops.
-use Rattle.std.proofs.Common.{◌≡◌, ◌≢◌, inl, inr, ℕ, zero, suc, ◌<◌, ◌≤◌, ◌==◌, ◌&&◌, Bool, true, false, if◌then◌else◌, List, [], ◌∷◌, ◌++◌, map, length, Option, Some, None, refl, sym, ap, subst, ◌∙◌, arith, pos, codes}
+use Rattle.std.proofs.Common.{◌≡◌, ◌≢◌, inl, inr, ℕ, zero, suc, ◌<◌, ◌≤◌, ◌==◌, Bool, true, false, if◌then◌else◌, List, [], ◌∷◌, ◌++◌, map, length, Option, Some, None, refl, sym, ap, subst, ◌∙◌, arith, pos, codes}
 use Rattle.std.specs.Option.{option_map, option_and_then}
 use Rattle.std.specs.Str.{bytes_eq}
 use Rattle.std.proofs.lemmas.Slice.Eq.{bytes_eq-Decides}
 use Rattle.br_bytes.specs.declared.run.Event.TheVariants.{Read, Write}
 use Rattle.br_bytes.specs.Number.{low_bytes}
 use Rattle.br_bytes.specs.Memory.{Memory, in_front, bytes_at, put_number, with_bytes}
-use Rattle.br_bytes.specs.Runs as runs
-use Rattle.br_bytes.specs.Runs.{OutOfFuel, Undefined, Goes, Ends, then_do, with_defined, choose, with_fuel, loop, read_device, write_device, happens}
+use Rattle.br_bytes.specs.Runs.{OutOfFuel, Undefined, Goes, Ends, then_do, with_defined, choose, with_fuel, loop, read_device, write_device}
 use Rattle.br_syntax.specs.declared.program.Expr.{Expr}
 use Rattle.br_source_meaning.specs.Values as source
 use Rattle.br_source_meaning.specs.Values.{Name, value, values, without_local}
 use Rattle.br_source_meaning.specs.Runs as src
 use Rattle.br_source_meaning.specs.Runs.{read_by, write_by, interact}
-use Rattle.br_flatimp.specs.declared.program.Stmt.{Stmt}
 use Rattle.br_flatimp.specs.declared.program.Stmt.TheOpen.{Stmt-F}
-use Rattle.br_flatimp.specs.declared.program.Stmt.TheViews.{roll-Stmt}
 use Rattle.br_flatimp.specs.Values.{Locals, with_local, with_locals, words_of, moved}
 use Rattle.br_flatimp.specs.Matches.{SameOutside, Beside, Matches, IsSameDefined}
 use Rattle.br_flatimp.specs.Runs.{State, Run, Callee}

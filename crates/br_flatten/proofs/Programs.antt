@@ -1,12 +1,11 @@
 -- Functions and programs: with the same choices calls match at each depth, so the flat program refines.
-use Rattle.std.proofs.Common.{◌≡◌, ℕ, zero, suc, Bool, true, false, if◌then◌else◌, ◌&&◌, List, [], ◌∷◌, ◌++◌, map, length, Option, Some, None, inl, inr, refl, sym, ap, subst, ◌∙◌, arith, slice_get, cond}
-use Rattle.std.specs.List.{list_all, find}
+use Rattle.std.proofs.Common.{◌≡◌, ℕ, zero, suc, Bool, true, false, if◌then◌else◌, ◌&&◌, List, [], ◌∷◌, map, length, Option, Some, None, inl, inr, refl, sym, ap, subst, ◌∙◌, slice_get, cond}
+use Rattle.std.specs.List.{list_all}
 use Rattle.std.specs.Option.{option_map}
 use Rattle.std.specs.Str.{bytes_eq}
 use Rattle.std.proofs.lemmas.Option.{slice_get-map}
 use Rattle.br_bytes.specs.Memory.{in_front}
-use Rattle.br_bytes.specs.Runs.{Goes, Ends, Returned, Returns, Stops, returned}
-use Rattle.br_syntax.specs.declared.program.Cmd.{Cmd}
+use Rattle.br_bytes.specs.Runs.{Goes, Ends, Returns, returned}
 use Rattle.br_syntax.specs.declared.program.Func.{Func}
 use Rattle.br_syntax.specs.Functions.{function_named}
 use Rattle.br_syntax.specs.NameFaults.{NameFault, DuplicateFunction, UnknownFunction, WrongArguments, WrongResults, UnknownAction, duplicates_after, HasNoNameFault}
@@ -14,10 +13,9 @@ use Rattle.br_source_meaning.specs.Values as source
 use Rattle.br_source_meaning.specs.Values.{Name}
 use Rattle.br_source_meaning.specs.Runs as src
 use Rattle.br_source_meaning.specs.Calls as calls
-use Rattle.br_flatimp.specs.declared.program.FlatFunc.{FlatFunc}
 use Rattle.br_flatimp.specs.Values.{Locals, no_locals, with_locals, words_of}
 use Rattle.br_flatimp.specs.Matches.{SameOutside, CallMatches, IsSameDefined}
-use Rattle.br_flatimp.specs.Refines.{Signature, Refines, IsCall, signature, meaning}
+use Rattle.br_flatimp.specs.Refines.{Signature, Refines, signature, meaning}
 use Rattle.br_flatimp.specs.Runs as flat
 use Rattle.br_flatimp.specs.Runs.{State, Callee, forgets_none, begin}
 use Rattle.br_flatimp.proofs.Programs.{matches-returned, matches-seen}

@@ -1,7 +1,7 @@
 -- The flat statements of expressions, commands, functions and programs. A variable's number is the place of
 -- its name in a list of names; the numbers from the length of that list on are temporaries. Each word of an
 -- expression goes to a temporary or straight to the variable that is set, and a variable is used where it is.
-use Rattle.std.specs.Prelude.{ℕ, zero, suc, max, Bool, true, false, ◌||◌, ◌&&◌, List, [], ◌∷◌, ◌++◌, map, length, Option, Some, None, pos, if◌then◌else◌, codes}
+use Rattle.std.specs.Prelude.{ℕ, suc, max, Bool, true, false, ◌||◌, ◌&&◌, List, [], ◌∷◌, ◌++◌, map, length, Option, Some, None, pos, if◌then◌else◌, codes}
 use Rattle.std.specs.List.{flat_map, list_all}
 use Rattle.std.specs.Str.{bytes_eq}
 use Rattle.br_syntax.specs.declared.program.Expr.{Expr}
