@@ -1,2 +1,5 @@
 pub mod Firmware
+pub mod Names
+pub mod Shows
+pub mod Spi
 pub mod Text

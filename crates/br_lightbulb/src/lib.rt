@@ -2,9 +2,11 @@
 #![tactic(auto)]
 
 mod firmware;
+mod laws;
 mod text;
 
 pub use firmware::program;
+pub use laws::bytes_show_pieces;
 pub use text::TEXT;
 
 #[cfg(test)]

@@ -1,0 +1,3 @@
+pub mod Does
+pub mod Waiting
+pub mod Spi
