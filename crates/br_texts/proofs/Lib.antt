@@ -1,2 +1,5 @@
 pub mod Apart
+pub mod RangeLines
+pub mod Scripts
+pub mod Shown
 pub mod Values

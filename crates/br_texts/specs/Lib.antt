@@ -1,2 +1,5 @@
+pub mod Entries
+pub mod InterpText
 pub mod Lines
 pub mod Memory
+pub mod RunText

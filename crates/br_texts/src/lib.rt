@@ -2,8 +2,12 @@
 //! source language shows of a run, and a verdict on events.
 #![tactic(auto)]
 
+mod entries;
+mod interps;
 mod lines;
 mod ranges;
+mod runs;
 
-pub use lines::{push_bytes_line, push_end, push_events, push_outcome};
-pub use ranges::memory_of;
+pub use entries::entry_named;
+pub use interps::interp_text;
+pub use runs::run_text;
