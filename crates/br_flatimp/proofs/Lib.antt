@@ -13,3 +13,4 @@ pub mod Given
 pub mod Lists
 pub mod Skips
 pub mod LiveTables
+pub mod Rows

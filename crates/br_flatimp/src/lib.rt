@@ -6,6 +6,7 @@
 //! each stand as a lemma: `proofs/Matches` for the forms of runs over any variables, `proofs/Renamed` for
 //! one statement, `proofs/Skips` for one that the answer leaves out, `proofs/Uniform` for functions, and
 //! `refines-from_entries` of `proofs/Programs`, which makes Refines of what holds of each function.
+//! `proofs/Rows` computes small rows of the definitions, each with the answer that is wanted.
 #![tactic(auto)]
 
 mod forms;
