@@ -52,6 +52,7 @@ fn trace_texts(rt: HostRuntime) -> Result<(), Fail> {
         ("read 10012008 00000000\nread 10012008", 2, 0),
     ];
     for (text, fault, events) in &cases {
+        assert!(rt; text.len() <= 1_000);
         match read_trace(rt.alloc(), text.as_bytes()) {
             Ok(read) => assert_eq!(rt; (0, read.len()), (*fault, *events)),
             Err(OrMemory::Fault(TraceFault::BadTraceLine(line))) => assert_eq!(rt; line, *fault),
