@@ -1,0 +1,10 @@
+pub mod Follows
+pub mod Extra
+pub mod Scene
+pub mod Pieces
+pub mod Straight
+pub mod Control
+pub mod Calls
+pub mod Statements
+pub mod Functions
+pub mod Programs
