@@ -49,10 +49,10 @@ DoesCall Q S (Returns ws t) = Q ws t
 DoesCall Q S (Stops end t) = IsDefined end × S t
 
 -- what a command does, by its layer
-run-layer : (C : Callee) (y : Cmd-F Cmd) (c : Cmd) (s : State) → roll-Cmd y ≡ c → run C c s ≡ command_step C (map-Cmd Cmd (State → Run) (run C) y) s
+pub run-layer : (C : Callee) (y : Cmd-F Cmd) (c : Cmd) (s : State) → roll-Cmd y ≡ c → run C c s ≡ command_step C (map-Cmd Cmd (State → Run) (run C) y) s
 run-layer C y c s is = ap (λ d. run C d s) (sym is) ∙ ap (λ f. f s) (fold-roll-Cmd (State → Run) (command_step C) y)
 
-by_command : (C : Callee) (c : Cmd) (cs : List Cmd) (s : State) (r : Run) (Q S : State → Type 0) → run C c s ≡ r →
+pub by_command : (C : Callee) (c : Cmd) (cs : List Cmd) (s : State) (r : Run) (Q S : State → Type 0) → run C c s ≡ r →
     Does (λ t. Does Q S (run_all C cs t)) S r → Does Q S (run_all C (c ∷ cs) s)
 by_command C c cs s r Q S is h =
     does-then Q S (run C c s) (run_all C cs) (subst (Does (λ t. Does Q S (run_all C cs t)) S) (sym is) h)

@@ -1,3 +1,10 @@
+pub mod Commands
 pub mod Does
-pub mod Waiting
+pub mod Lan
+pub mod LanRead
+pub mod LanWrite
+pub mod Leads
+pub mod Opening
 pub mod Spi
+pub mod Transfers
+pub mod Waiting

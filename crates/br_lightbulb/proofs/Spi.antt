@@ -74,7 +74,7 @@ put_finish C b s w t es has keeps memory trace r =
 same_count : (k : ℕ) (o : Option ℕ) → o ≡ Some k → o ≡ Some 0 → k ≡ 0
 same_count k o h z = let e : Some k ≡ Some 0 = sym h ∙ z in cc
 
-word_of : (x : Name) (l : Locals) (v : ℕ) → l x ≡ Some v → words_of (x ∷ []) l ≡ Some (v ∷ [])
+pub word_of : (x : Name) (l : Locals) (v : ℕ) → l x ≡ Some v → words_of (x ∷ []) l ≡ Some (v ∷ [])
 word_of x l v h = rw h refl
 
 put_ends : (C : Callee) (b : ℕ) (s t : State) → Loops TX s.trace s.memory (Sending b) (Sends b) t → t.locals name.n ≡ Some 0 →
@@ -149,7 +149,7 @@ get_finish C s w t es has keeps memory trace r =
     (does-set C name.n (Literal 0) [] t2 0 Q S (value-lit t2.locals t2.memory 0)
     (inr (record { word = w; n = refl; holds = (refl, ap Some (and_mask w 8)); memory = memory; events = es; trace = trace; ready = r }))))
 
-words_of_two : (x y : Name) (l : Locals) (u v : ℕ) → l x ≡ Some u → l y ≡ Some v → words_of (x ∷ y ∷ []) l ≡ Some (u ∷ v ∷ [])
+pub words_of_two : (x y : Name) (l : Locals) (u v : ℕ) → l x ≡ Some u → l y ≡ Some v → words_of (x ∷ y ∷ []) l ≡ Some (u ∷ v ∷ [])
 words_of_two x y l u v h k = rw (h, k) refl
 
 get_ends : (s t : State) → Loops RX s.trace s.memory Receiving Receives t → t.locals name.n ≡ Some 0 → Ended s get_piece (name.b ∷ name.bad ∷ []) t

@@ -8,7 +8,8 @@ use Rattle.br_syntax.specs.Functions.{function_named}
 use Rattle.br_judge.specs.Languages.{Language}
 use Rattle.br_lightbulb.specs.Names as name
 use Rattle.br_lightbulb.specs.Spi as spi
-use Rattle.br_judge.specs.Good.{spi_put, failed_put, spi_get, failed_get, exchange, failed_exchange}
+use Rattle.br_lightbulb.specs.Lan as lan
+use Rattle.br_judge.specs.Good.{spi_put, failed_put, spi_get, failed_get, exchange, failed_exchange, read_word, failed_read, write_word, failed_write}
 
 -- any end but that of an undefined run
 abbrev pub IsDefined : End → Type 0
@@ -43,8 +44,23 @@ get_piece ws es = ((r : ℕ) × (ws ≡ r ∷ 0 ∷ []) × spi_get r es) ⊎ ((w
 abbrev pub exchange_piece : ℕ → Piece
 exchange_piece b ws es = ((r : ℕ) × (ws ≡ r ∷ 0 ∷ []) × exchange b r es) ⊎ ((ws ≡ 0 ∷ 1 ∷ []) × failed_exchange b es)
 
+-- a word is read and answered, and 0; or some word and 1 where a port stayed busy
+abbrev pub read_piece : ℕ → Piece
+read_piece a ws es =
+    ((v : ℕ) × (ws ≡ v ∷ 0 ∷ []) × read_word a v es) ⊎ ((v : ℕ) × (ws ≡ v ∷ 1 ∷ []) × failed_read a es)
+
+-- a word is written and 0 answered, or 1 where a port stayed busy
+abbrev pub write_piece : ℕ → ℕ → Piece
+write_piece a v ws es = ((ws ≡ 0 ∷ []) × write_word a v es) ⊎ ((ws ≡ 1 ∷ []) × failed_write a v es)
+
 -- the program has the firmware's functions for bytes
 pub record HasSpi (fs : List Func) : Type 0 where
   pub put : function_named fs name.spi_put ≡ Some spi.spi_put
   pub get : function_named fs name.spi_get ≡ Some spi.spi_get
   pub xchg : function_named fs name.spi_xchg ≡ Some spi.spi_xchg
+
+-- and those for words
+pub record HasLan (fs : List Func) : Type 0 where
+  pub bytes : HasSpi fs
+  pub read : function_named fs name.lan_read ≡ Some lan.lan_read
+  pub write : function_named fs name.lan_write ≡ Some lan.lan_write

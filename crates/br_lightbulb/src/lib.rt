@@ -6,7 +6,7 @@ mod laws;
 mod text;
 
 pub use firmware::program;
-pub use laws::bytes_show_pieces;
+pub use laws::{bytes_show_pieces, words_show_pieces};
 pub use text::TEXT;
 
 #[cfg(test)]
