@@ -1,3 +1,4 @@
+pub mod Boot
 pub mod Commands
 pub mod Does
 pub mod Lan
@@ -8,3 +9,4 @@ pub mod Opening
 pub mod Spi
 pub mod Transfers
 pub mod Waiting
+pub mod Words

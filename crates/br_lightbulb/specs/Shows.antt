@@ -9,7 +9,7 @@ use Rattle.br_judge.specs.Languages.{Language}
 use Rattle.br_lightbulb.specs.Names as name
 use Rattle.br_lightbulb.specs.Spi as spi
 use Rattle.br_lightbulb.specs.Lan as lan
-use Rattle.br_judge.specs.Good.{spi_put, failed_put, spi_get, failed_get, exchange, failed_exchange, read_word, failed_read, write_word, failed_write}
+use Rattle.br_judge.specs.Good.{spi_put, failed_put, spi_get, failed_get, exchange, failed_exchange, read_word, failed_read, write_word, failed_write, boot, failed_boot}
 
 -- any end but that of an undefined run
 abbrev pub IsDefined : End → Type 0
@@ -52,6 +52,10 @@ read_piece a ws es =
 -- a word is written and 0 answered, or 1 where a port stayed busy
 abbrev pub write_piece : ℕ → ℕ → Piece
 write_piece a v ws es = ((ws ≡ 0 ∷ []) × write_word a v es) ⊎ ((ws ≡ 1 ∷ []) × failed_write a v es)
+
+-- a start that succeeds, and 0; or one that fails, and 1
+abbrev pub boot_piece : Piece
+boot_piece ws es = ((ws ≡ 0 ∷ []) × boot es) ⊎ ((ws ≡ 1 ∷ []) × failed_boot es)
 
 -- the program has the firmware's functions for bytes
 pub record HasSpi (fs : List Func) : Type 0 where
