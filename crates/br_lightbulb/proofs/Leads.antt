@@ -1,12 +1,13 @@
 -- Where commands lead, one command at a time. Of a state in which a run stops only its trace is asked.
 use Rattle.std.proofs.Common.{◌≡◌, ℕ, zero, suc, Bool, true, false, List, [], ◌∷◌, ◌++◌, Option, Some, codes, map, ◌==◌, refl, sym, ap, subst, ◌∙◌, append-nil}
 use Rattle.br_words.specs.Device.{is_device_word}
+use Rattle.br_words.specs.Words.{flag}
 use Rattle.br_bytes.specs.declared.run.Choice.{Choice}
 use Rattle.br_bytes.specs.declared.run.Event.{Event}
 use Rattle.br_bytes.specs.declared.run.Event.TheVariants.{Read, Write}
 use Rattle.br_bytes.specs.Memory.{Memory, put_number, with_bytes}
 use Rattle.br_bytes.specs.Buffers.{is_good, without_range}
-use Rattle.br_bytes.specs.Runs.{Goes, Ends, NoChoice, Returns, Stops, choose, with_buffer, happens}
+use Rattle.br_bytes.specs.Runs.{Goes, Ends, NoChoice, Returns, Stops, then_do, with_buffer, happens}
 use Rattle.br_words.specs.declared.size.Size.TheVariants as size
 use Rattle.br_syntax.specs.declared.program.Expr.TheVariants as expr
 use Rattle.br_syntax.specs.declared.program.Cmd.TheVariants as cmd
@@ -55,6 +56,13 @@ pub second_of_two : {C : Callee} {S : List Event → Type 0} {Q : State → Type
 second_of_two {C} {S} {Q} {e} {first} {second} {cs} {s} {v} has is h = record {
   does = does-second C (tree e) (trees first) (trees second) (trees cs) s v Q (λ t. S t.trace) (value_is s.locals s.memory e ∙ has) is (plain h);
 }
+
+-- the same, by a test that is 1 or 0
+pub tests : {C : Callee} {S : List Event → Type 0} {Q : State → Type 0} {e : Exp} {first second cs : Commands} {s : State} (b : Bool) →
+    val s.locals s.memory e ≡ Some (flag b) → (b ≡ true → Leads C S (Leads C S Q cs) first s) → (b ≡ false → Leads C S (Leads C S Q cs) second s) →
+    Leads C S Q (cond e first second cs) s
+tests true has h g = first_of_two {v = 1} has refl (h refl)
+tests false has h g = second_of_two {v = 0} has refl (g refl)
 
 pub reads : {C : Callee} {S : List Event → Type 0} {Q : State → Type 0} {x : Name} {a : ℕ} {cs : Commands} {s : State} →
     is_device_word a ≡ true → S s.trace →
@@ -138,3 +146,49 @@ repeats {C} {S} {Q} {e} {body} {cs} {s} I turns i = record {
         on = λ is k. (u.on is k).does;
       }) i;
 }
+
+-- ---- memory
+
+pub stores : {C : Callee} {S : List Event → Type 0} {Q : State → Type 0} {a e : Exp} {cs : Commands} {s : State} {p v : ℕ} {m : Memory} →
+    val s.locals s.memory a ≡ Some p → val s.locals s.memory e ≡ Some v → put_number s.memory p 4 v ≡ Some m → Leads C S Q cs (record s { memory = m }) →
+    Leads C S Q (store a e cs) s
+stores {C} {S} {Q} {a} {e} {cs} {s} {p} {v} {m} where_is what_is puts h = record {
+  does =
+      by_command C (cmd.Store size.Four (tree a) (tree e)) (trees cs) s (Goes (record s { memory = m })) Q (λ t. S t.trace)
+      (run-layer C (Cmd-F.Store size.Four (tree a) (tree e)) (cmd.Store size.Four (tree a) (tree e)) s (cmd.rolls-Store size.Four (tree a) (tree e))
+      ∙ rw (value_is s.locals s.memory a ∙ where_is, value_is s.locals s.memory e ∙ what_is) (rw puts refl))
+      h.does;
+}
+
+-- a buffer is taken for commands, and leaves memory after them
+pub buffers : {C : Callee} {S : List Event → Type 0} {Q : State → Type 0} {x : Name} {n : ℕ} {body cs : Commands} {s : State} → S s.trace →
+    ((c : Choice) (chosen : List Choice) → is_good n s.memory c ≡ true →
+    Leads C S (λ t. Leads C S Q cs (record t { memory = without_range t.memory c.addr n })) body
+    (record s { locals = with_local x c.addr s.locals; memory = with_bytes s.memory c.addr c.bytes; choices = chosen })) →
+    Leads C S Q (buffer x n body cs) s
+buffers {C} {S} {Q} {x} {n} {body} {cs} {s} stops goes = record {
+  does =
+      by_command C (cmd.Stackalloc x n (trees body)) (trees cs) s (with_buffer (with_local x) n (run_all C (trees body)) s) Q (λ t. S t.trace)
+      (run-layer C (Cmd-F.Stackalloc x n (trees body)) (cmd.Stackalloc x n (trees body)) s (cmd.rolls-Stackalloc x n (trees body)))
+      (by s.choices stops goes);
+}
+  where
+    R : State → Type 0
+    R t = Does Q (λ u. S u.trace) (run_all C (trees cs) t)
+
+    by : (choices : List Choice) → S s.trace →
+        ((c : Choice) (chosen : List Choice) → is_good n s.memory c ≡ true →
+        Leads C S (λ t. Leads C S Q cs (record t { memory = without_range t.memory c.addr n })) body
+        (record s { locals = with_local x c.addr s.locals; memory = with_bytes s.memory c.addr c.bytes; choices = chosen })) →
+        Does R (λ t. S t.trace) (with_buffer (with_local x) n (run_all C (trees body)) (record s { choices = choices }))
+    by [] stops goes = (tt, stops)
+    by (c ∷ chosen) stops goes = choice (is_good n s.memory c) refl
+      where
+        leaving : (r : Run) → Does (λ t. Leads C S Q cs (record t { memory = without_range t.memory c.addr n })) (λ t. S t.trace) r →
+            Does R (λ t. S t.trace) (then_do r (λ t. Goes (record t { memory = without_range t.memory c.addr n })))
+        leaving (Goes t) h = h.does
+        leaving (Ends end t) h = h
+
+        choice : (b : Bool) → is_good n s.memory c ≡ b → Does R (λ t. S t.trace) (with_buffer (with_local x) n (run_all C (trees body)) (record s { choices = c ∷ chosen }))
+        choice true good = rw good (leaving (run_all C (trees body) (record s { locals = with_local x c.addr s.locals; memory = with_bytes s.memory c.addr c.bytes; choices = chosen })) (goes c chosen good).does)
+        choice false bad = rw bad (tt, stops)

@@ -1,6 +1,9 @@
 pub mod Boot
+pub mod Boots
+pub mod Buffers
 pub mod Commands
 pub mod Does
+pub mod Handle
 pub mod Lan
 pub mod LanRead
 pub mod LanWrite

@@ -1,15 +1,19 @@
 -- What calls of the firmware's functions show: a piece of the trace language, or the first part of one.
-use Rattle.std.specs.Prelude.{◌≡◌, ◌⊎◌, ⊤, ℕ, List, [], ◌∷◌, ◌++◌, Some}
+use Rattle.std.specs.Prelude.{◌≡◌, ◌⊎◌, ⊤, ℕ, ◌+◌, ◌^◌, ◌<◌, ◌≤◌, true, false, List, [], ◌∷◌, ◌++◌, length, slice_index, Some}
+use Rattle.std.specs.FinMap as map
 use Rattle.br_bytes.specs.declared.run.Event.{Event}
+use Rattle.br_bytes.specs.Memory.{Memory}
 use Rattle.br_bytes.specs.Runs.{End, Waiting, OutOfFuel, Undefined, NoChoice, Returns, Stops}
 use Rattle.br_source_meaning.specs.Runs.{State, Returned}
 use Rattle.br_syntax.specs.declared.program.Func.{Func}
 use Rattle.br_syntax.specs.Functions.{function_named}
-use Rattle.br_judge.specs.Languages.{Language}
+use Rattle.br_judge.specs.Languages.{Language, ◌▸◌, nothing, either, some, given}
 use Rattle.br_lightbulb.specs.Names as name
 use Rattle.br_lightbulb.specs.Spi as spi
 use Rattle.br_lightbulb.specs.Lan as lan
-use Rattle.br_judge.specs.Good.{spi_put, failed_put, spi_get, failed_get, exchange, failed_exchange, read_word, failed_read, write_word, failed_write, boot, failed_boot}
+use Rattle.br_lightbulb.specs.Frames as frames
+use Rattle.br_lightbulb.specs.Polls as polls
+use Rattle.br_judge.specs.Good.{spi_put, failed_put, spi_get, failed_get, exchange, failed_exchange, read_word, failed_read, write_word, failed_write, boot, failed_boot, words_for, frame_length, first_bytes, frame_words, is_accepted, set_light, light_of, poll}
 
 -- any end but that of an undefined run
 abbrev pub IsDefined : End → Type 0
@@ -57,6 +61,58 @@ write_piece a v ws es = ((ws ≡ 0 ∷ []) × write_word a v es) ⊎ ((ws ≡ 1 
 abbrev pub boot_piece : Piece
 boot_piece ws es = ((ws ≡ 0 ∷ []) × boot es) ⊎ ((ws ≡ 1 ∷ []) × failed_boot es)
 
+-- ---- frames
+
+-- the addresses of a buffer of n bytes from p on are in the memory, and none wraps
+pub record IsBuffer (m : Memory) (p n : ℕ) : Type 0 where
+  pub below : p + n ≤ 2 ^ 32
+  pub there : (j : ℕ) → j < n → (b : ℕ) × (map.get m (p + j) ≡ Some b)
+
+-- the bytes stand from p on, but for those that a buffer of 1,520 bytes has no room for
+abbrev pub Holds : Memory → ℕ → List ℕ → Type 0
+Holds m p bytes = (j : ℕ) → j < length bytes → j < 1520 → map.get m (p + j) ≡ Some (slice_index bytes j)
+
+-- the length and the words of a frame are read
+abbrev pub received : List ℕ → Language
+received bytes =
+    some λ (l : ℕ). read_word 0x40 l ▸ some λ (ws : List ℕ).
+    given ((length ws ≡ words_for (frame_length l)) × (bytes ≡ first_bytes (frame_length l) ws)) (frame_words ws)
+
+-- the length or one of the words is not
+abbrev pub failed_receive : Language
+failed_receive =
+    either (failed_read 0x40)
+    (some λ (l : ℕ). read_word 0x40 l ▸ some λ (ws : List ℕ). given (length ws < words_for (frame_length l)) (frame_words ws ▸ failed_read 0))
+
+-- From a state, a call of `receive` reads a frame into the buffer and answers its length, and 0; or it
+-- fails and answers 1 as the second word; or it stops, is not undefined, and has added the first events
+-- of one of these.
+abbrev pub Receives : State → ℕ → Returned → Type 0
+Receives s p (Returns ws t) =
+    (es : List Event) × (t.trace ≡ s.trace ++ es)
+    × (((bytes : List ℕ) × (ws ≡ length bytes ∷ 0 ∷ []) × Holds t.memory p bytes × received bytes es)
+    ⊎ ((n : ℕ) × (ws ≡ n ∷ 1 ∷ []) × failed_receive es))
+Receives s p (Stops end t) =
+    IsDefined end × ((es : List Event) × (t.trace ≡ s.trace ++ es) × (rest : List Event) × either (some received) failed_receive (es ++ rest))
+
+-- the light is set as an accepted frame asks, and nothing is done for another
+abbrev pub handle_piece : List ℕ → Piece
+handle_piece bytes ws es =
+    (ws ≡ []) × (given (is_accepted bytes ≡ true) (set_light (light_of bytes)) es ⊎ given (is_accepted bytes ≡ false) nothing es)
+
+-- ---- polls
+
+-- the same as ShowsPiece, where memory may change
+abbrev pub ShowsEvents : State → Piece → Returned → Type 0
+ShowsEvents s piece (Returns ws t) = (es : List Event) × (t.trace ≡ s.trace ++ es) × piece ws es
+ShowsEvents s piece (Stops end t) = IsDefined end × ((es : List Event) × (t.trace ≡ s.trace ++ es) × Begins piece es)
+
+-- one look at the chip, with any answer
+abbrev pub poll_piece : Piece
+poll_piece ws es = ((bad : ℕ) × (ws ≡ bad ∷ [])) × poll es
+
+-- ---- programs
+
 -- the program has the firmware's functions for bytes
 pub record HasSpi (fs : List Func) : Type 0 where
   pub put : function_named fs name.spi_put ≡ Some spi.spi_put
@@ -68,3 +124,11 @@ pub record HasLan (fs : List Func) : Type 0 where
   pub bytes : HasSpi fs
   pub read : function_named fs name.lan_read ≡ Some lan.lan_read
   pub write : function_named fs name.lan_write ≡ Some lan.lan_write
+
+-- and all the functions of the firmware
+pub record HasFirmware (fs : List Func) : Type 0 where
+  pub words : HasLan fs
+  pub boot : function_named fs name.boot ≡ Some polls.boot
+  pub receive : function_named fs name.receive ≡ Some frames.receive
+  pub handle : function_named fs name.handle ≡ Some frames.handle
+  pub poll : function_named fs name.poll ≡ Some polls.poll
