@@ -9,6 +9,7 @@ pub mod LanRead
 pub mod LanWrite
 pub mod Leads
 pub mod Opening
+pub mod Receive
 pub mod Spi
 pub mod Transfers
 pub mod Waiting

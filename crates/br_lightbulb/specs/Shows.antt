@@ -84,6 +84,10 @@ failed_receive =
     either (failed_read 0x40)
     (some λ (l : ℕ). read_word 0x40 l ▸ some λ (ws : List ℕ). given (length ws < words_for (frame_length l)) (frame_words ws ▸ failed_read 0))
 
+-- these events begin those of a frame that is read, or is not
+abbrev pub BeginsFrame : List Event → Type 0
+BeginsFrame es = (rest : List Event) × either (some received) failed_receive (es ++ rest)
+
 -- From a state, a call of `receive` reads a frame into the buffer and answers its length, and 0; or it
 -- fails and answers 1 as the second word; or it stops, is not undefined, and has added the first events
 -- of one of these.
@@ -93,7 +97,7 @@ Receives s p (Returns ws t) =
     × (((bytes : List ℕ) × (ws ≡ length bytes ∷ 0 ∷ []) × Holds t.memory p bytes × received bytes es)
     ⊎ ((n : ℕ) × (ws ≡ n ∷ 1 ∷ []) × failed_receive es))
 Receives s p (Stops end t) =
-    IsDefined end × ((es : List Event) × (t.trace ≡ s.trace ++ es) × (rest : List Event) × either (some received) failed_receive (es ++ rest))
+    IsDefined end × ((es : List Event) × (t.trace ≡ s.trace ++ es) × BeginsFrame es)
 
 -- the light is set as an accepted frame asks, and nothing is done for another
 abbrev pub handle_piece : List ℕ → Piece
