@@ -14,7 +14,7 @@ use Rattle.br_syntax.specs.declared.program.Cmd.TheVariants as cmd
 use Rattle.br_syntax.specs.declared.program.Cmd.TheOpen.{Cmd-F}
 use Rattle.br_source_meaning.specs.Values.{Name, Locals, with_local}
 use Rattle.br_source_meaning.specs.Runs.{State, Run, Returned, Callee, set_to, with_locals, run, run_all}
-use Rattle.br_lightbulb.specs.Shows.{Piece, Begins, ShowsPiece}
+use Rattle.br_lightbulb.specs.Shows.{Piece, Begins, ShowsPiece, ShowsEvents}
 use Rattle.br_lightbulb.proofs.Does.{Does, DoesCall, Turn, by_command, run-layer, does-then, does-set, does-first, does-second, does-read, does-write, does-call, does-while}
 use Rattle.br_lightbulb.proofs.Commands.{Exp, Commands, done, set, cond, repeat, call, read, write, store, buffer, tree, trees, val, vals, value_is, values_are}
 
@@ -105,6 +105,23 @@ calls {C} {S} {Q} {xs} {f} {es} {cs} {s} {vs} has stops h = record {
 }
 
 -- A call that shows a piece: the caller goes on after each list of it, or has stopped in one.
+pub shown_here : {C : Callee} {S : List Event → Type 0} {Q : State → Type 0} {xs : List Name} {f : Name} {es : List Exp} {cs : Commands} {s : State} {vs : List ℕ} {piece : Piece} →
+    vals s.locals s.memory es ≡ Some vs →
+    ((k : ℕ) → ShowsPiece (record s { fuel = k }) piece (C f vs (record s { fuel = k }))) →
+    Begins piece [] →
+    ((fs : List Event) → Begins piece fs → S (s.trace ++ fs)) →
+    ((ws : List ℕ) (fs : List Event) (o : State) → piece ws fs → Leads C S Q cs (upon (with_locals xs ws s.locals) s.memory (s.trace ++ fs) o)) →
+    Leads C S Q (call xs f es cs) s
+shown_here {C} {S} {Q} {xs} {f} {es} {cs} {s} {vs} {piece} has shows some stops goes =
+    calls {C = C} {S = S} {Q = Q} {xs = xs} {f = f} {es = es} {cs = cs} {s = s} {vs = vs} has (subst S (append-nil s.trace) (stops [] some))
+    (λ k. by k (C f vs (record s { fuel = k })) (shows k))
+  where
+    by : (k : ℕ) (r : Returned) → ShowsPiece (record s { fuel = k }) piece r →
+        DoesCall (λ ws t. Leads C S Q cs (record t { locals = with_locals xs ws s.locals })) (λ t. S t.trace) r
+    by k (Returns ws t) (fs, e, m, p) = at_state C S Q cs (record t { locals = with_locals xs ws s.locals }) s.memory (s.trace ++ fs) m e (goes ws fs t p)
+    by k (Stops end t) (defined, (fs, e, p)) = (defined, subst S (sym e) (stops fs p))
+
+-- the same of a function that shows it from every state
 pub shown : {C : Callee} {S : List Event → Type 0} {Q : State → Type 0} {xs : List Name} {f : Name} {es : List Exp} {cs : Commands} {s : State} {vs : List ℕ} {piece : Piece} →
     vals s.locals s.memory es ≡ Some vs →
     ((t : State) → ShowsPiece t piece (C f vs t)) →
@@ -113,13 +130,23 @@ pub shown : {C : Callee} {S : List Event → Type 0} {Q : State → Type 0} {xs 
     ((ws : List ℕ) (fs : List Event) (o : State) → piece ws fs → Leads C S Q cs (upon (with_locals xs ws s.locals) s.memory (s.trace ++ fs) o)) →
     Leads C S Q (call xs f es cs) s
 shown {C} {S} {Q} {xs} {f} {es} {cs} {s} {vs} {piece} has shows some stops goes =
+    shown_here {C = C} {S = S} {Q = Q} {xs = xs} {f = f} {es = es} {cs = cs} {s = s} {vs = vs} {piece = piece} has (λ k. shows (record s { fuel = k })) some stops goes
+
+-- the same of one after which memory may be another
+pub shown_events : {C : Callee} {S : List Event → Type 0} {Q : State → Type 0} {xs : List Name} {f : Name} {es : List Exp} {cs : Commands} {s : State} {vs : List ℕ} {piece : Piece} →
+    vals s.locals s.memory es ≡ Some vs →
+    ((t : State) → ShowsEvents t piece (C f vs t)) →
+    Begins piece [] →
+    ((fs : List Event) → Begins piece fs → S (s.trace ++ fs)) →
+    ((ws : List ℕ) (fs : List Event) (o : State) → piece ws fs → Leads C S Q cs (upon (with_locals xs ws s.locals) o.memory (s.trace ++ fs) o)) →
+    Leads C S Q (call xs f es cs) s
+shown_events {C} {S} {Q} {xs} {f} {es} {cs} {s} {vs} {piece} has shows some stops goes =
     calls {C = C} {S = S} {Q = Q} {xs = xs} {f = f} {es = es} {cs = cs} {s = s} {vs = vs} has (subst S (append-nil s.trace) (stops [] some))
     (λ k. by k (C f vs (record s { fuel = k })) (shows (record s { fuel = k })))
   where
-    by : (k : ℕ) (r : Returned) → ShowsPiece (record s { fuel = k }) piece r →
+    by : (k : ℕ) (r : Returned) → ShowsEvents (record s { fuel = k }) piece r →
         DoesCall (λ ws t. Leads C S Q cs (record t { locals = with_locals xs ws s.locals })) (λ t. S t.trace) r
-    by k (Returns ws t) (fs, e, m, p) =
-        at_state C S Q cs (record t { locals = with_locals xs ws s.locals }) s.memory (s.trace ++ fs) m e (goes ws fs t p)
+    by k (Returns ws t) (fs, e, p) = at_state C S Q cs (record t { locals = with_locals xs ws s.locals }) t.memory (s.trace ++ fs) refl e (goes ws fs t p)
     by k (Stops end t) (defined, (fs, e, p)) = (defined, subst S (sym e) (stops fs p))
 
 -- ---- loops

@@ -8,7 +8,9 @@ pub mod Lan
 pub mod LanRead
 pub mod LanWrite
 pub mod Leads
+pub mod Main
 pub mod Opening
+pub mod Poll
 pub mod Receive
 pub mod Spi
 pub mod Transfers

@@ -1,8 +1,10 @@
 -- What calls of the firmware's functions show: a piece of the trace language, or the first part of one.
-use Rattle.std.specs.Prelude.{◌≡◌, ◌⊎◌, ⊤, ℕ, ◌+◌, ◌^◌, ◌<◌, ◌≤◌, true, false, List, [], ◌∷◌, ◌++◌, length, slice_index, Some}
+use Rattle.std.specs.Prelude.{◌≡◌, ◌≢◌, ◌⊎◌, ⊤, ℕ, ◌+◌, ◌^◌, ◌<◌, ◌≤◌, true, false, List, [], ◌∷◌, ◌++◌, length, slice_index, Some}
 use Rattle.std.specs.FinMap as map
 use Rattle.br_bytes.specs.declared.run.Event.{Event}
+use Rattle.br_bytes.specs.declared.run.Outcome.TheVariants as outcome
 use Rattle.br_bytes.specs.Memory.{Memory}
+use Rattle.br_bytes.specs.Called.{Called}
 use Rattle.br_bytes.specs.Runs.{End, Waiting, OutOfFuel, Undefined, NoChoice, Returns, Stops}
 use Rattle.br_source_meaning.specs.Runs.{State, Returned}
 use Rattle.br_syntax.specs.declared.program.Func.{Func}
@@ -13,7 +15,7 @@ use Rattle.br_lightbulb.specs.Spi as spi
 use Rattle.br_lightbulb.specs.Lan as lan
 use Rattle.br_lightbulb.specs.Frames as frames
 use Rattle.br_lightbulb.specs.Polls as polls
-use Rattle.br_judge.specs.Good.{spi_put, failed_put, spi_get, failed_get, exchange, failed_exchange, read_word, failed_read, write_word, failed_write, boot, failed_boot, words_for, frame_length, first_bytes, frame_words, is_accepted, set_light, light_of, poll}
+use Rattle.br_judge.specs.Good.{spi_put, failed_put, spi_get, failed_get, exchange, failed_exchange, read_word, failed_read, write_word, failed_write, boot, failed_boot, words_for, frame_length, first_bytes, frame_words, is_accepted, set_light, light_of, poll, BeginsGood}
 
 -- any end but that of an undefined run
 abbrev pub IsDefined : End → Type 0
@@ -136,3 +138,10 @@ pub record HasFirmware (fs : List Func) : Type 0 where
   pub receive : function_named fs name.receive ≡ Some frames.receive
   pub handle : function_named fs name.handle ≡ Some frames.handle
   pub poll : function_named fs name.poll ≡ Some polls.poll
+  pub main : function_named fs name.main ≡ Some polls.main
+
+-- ---- whole runs
+
+-- The call is not undefined, and some member of the trace language begins with its events.
+abbrev pub StaysGood : Called → Type 0
+StaysGood c = (c.outcome ≢ outcome.Undefined) × BeginsGood c.trace
