@@ -15,8 +15,8 @@ use Rattle.br_judge.specs.Good as good
 use Rattle.br_judge.specs.Good.{EN, chip_is_ready, missed, read_word, failed_read, write_word, failed_write, failed_boot}
 use Rattle.br_lightbulb.specs.Names as name
 use Rattle.br_lightbulb.specs.Polls.{boot}
-use Rattle.br_lightbulb.specs.Shows.{Piece, Begins, ShowsPiece, read_piece, write_piece, boot_piece}
-use Rattle.br_lightbulb.proofs.Commands.{Exp, lit, var, op, Commands, done, set, cond, repeat, call, read, write}
+use Rattle.br_lightbulb.specs.Shows.{Begins, ShowsPiece, read_piece, write_piece, boot_piece}
+use Rattle.br_lightbulb.proofs.Commands.{lit, var, op, Commands, done, set, cond, repeat, call, read, write}
 use Rattle.br_lightbulb.proofs.Leads.{Leads, Stopping, upon, at_state, ends, sets, first_of_two, second_of_two, reads, writes, shown, Turns, repeats}
 use Rattle.br_lightbulb.proofs.LanWrite.{writes_start}
 use Rattle.br_lightbulb.proofs.Spi.{Ended, shows-body, word_of}
@@ -262,14 +262,14 @@ pub shows-boot : (C : Callee) (s : State) → Words C → ShowsPiece s boot_piec
 shows-boot C s known =
     let s0 : State = record s { locals = no_locals } in
     let leads : Leads C (Stopping s.trace boot_piece) (Answers s) (read name.v 0x10012008 (write 0x10012008 (op Or (var name.v) (lit 0x800000)) asking)) s0 =
-        reads refl ([], sym (append-nil s.trace), boots_start)
-        (λ v vs. writes {v = bit_or v 8388608} refl refl
-        (at_state C (Stopping s.trace boot_piece) (Answers s) asking
-        (record s { locals = with_local name.v v no_locals; trace = (s.trace ++ Read EN v ∷ []) ++ Write EN (bit_or v 8388608) ∷ []; answers = vs }) s.memory ((s.trace ++ pinned v) ++ []) refl
-        (append_assoc s.trace (Read EN v ∷ []) (Write EN (bit_or v 8388608) ∷ []) ∙ sym (append-nil (s.trace ++ pinned v)))
-        (sets {v = 1} refl (sets {v = 200} refl
-        (repeats (Loops (s.trace ++ pinned v) s.memory) (turn C v s (Stopping s.trace boot_piece) known (stops s v))
-        ([], refl, refl, asks (record { left = 200; made = 0; all = refl; t = refl; bad = refl; missed = times_zero missed }))))))) in
+    reads refl ([], sym (append-nil s.trace), boots_start)
+    (λ v vs. writes {v = bit_or v 8388608} refl refl
+    (at_state C (Stopping s.trace boot_piece) (Answers s) asking
+    (record s { locals = with_local name.v v no_locals; trace = (s.trace ++ Read EN v ∷ []) ++ Write EN (bit_or v 8388608) ∷ []; answers = vs }) s.memory ((s.trace ++ pinned v) ++ []) refl
+    (append_assoc s.trace (Read EN v ∷ []) (Write EN (bit_or v 8388608) ∷ []) ∙ sym (append-nil (s.trace ++ pinned v)))
+    (sets {v = 1} refl (sets {v = 200} refl
+    (repeats (Loops (s.trace ++ pinned v) s.memory) (turn C v s (Stopping s.trace boot_piece) known (stops s v))
+    ([], refl, refl, asks (record { left = 200; made = 0; all = refl; t = refl; bad = refl; missed = times_zero missed }))))))) in
     shows-body s boot_piece (name.bad ∷ []) (run_all C boot.body s0) leads.does
   where
     stops : (s : State) (v : ℕ) → MayStop v (s.trace ++ pinned v) (Stopping s.trace boot_piece)

@@ -1,17 +1,16 @@
 -- Bytes of a buffer.
-use Rattle.std.proofs.Common.{◌≡◌, ◌≢◌, ◌⊎◌, inl, inr, ℕ, zero, suc, ◌+◌, ◌-◌, ◌*◌, ◌%◌, ◌^◌, ◌<◌, ◌≤◌, List, [], ◌∷◌, length, get_or, Option, Some, None, cond, refl, sym, ap, subst, ◌∙◌, arith}
+use Rattle.std.proofs.Common.{◌≡◌, ◌≢◌, ◌⊎◌, inl, inr, ℕ, zero, suc, ◌+◌, ◌-◌, ◌*◌, ◌^◌, ◌<◌, ◌≤◌, List, [], ◌∷◌, length, Some, cond, refl, ap, ◌∙◌, arith}
 use Rattle.std.specs.Prelude.{slice_index}
 use Rattle.std.specs.Ordering.{nat_cmp, is_eq}
 use Rattle.std.specs.declared.cmp.Ordering.{Ordering}
 use Rattle.std.specs.declared.cmp.Ordering.TheVariants.{Less, Equal, Greater}
 use Rattle.std.specs.FinMap as map
 use Rattle.std.specs.Cmp.{nat_cmp_total}
-use Rattle.std.specs.Option.{option_map}
 use Rattle.br_words.specs.declared.operation.BinOp.TheVariants.{Add}
 use Rattle.br_words.specs.Words.{value_of_op}
 use Rattle.br_bytes.specs.Number.{low_bytes}
-use Rattle.br_bytes.specs.Memory.{Memory, place, bytes_at, get_number, put_number, with_bytes}
-use Rattle.br_lightbulb.specs.Shows.{IsBuffer, Holds}
+use Rattle.br_bytes.specs.Memory.{Memory, place, get_number, put_number, with_bytes}
+use Rattle.br_lightbulb.specs.Shows.{IsBuffer}
 
 get-insert_same : (m : Memory) (k b : ℕ) → map.get (map.insert m k b) k ≡ Some b
 get-insert_same m k b = grind (map.gets, arith)

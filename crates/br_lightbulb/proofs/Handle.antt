@@ -1,16 +1,14 @@
 -- A frame is handled: the light is set where the frame is accepted.
-use Rattle.std.proofs.Common.{◌≡◌, inl, inr, ℕ, zero, suc, ◌+◌, ◌*◌, ◌%◌, ◌^◌, ◌<◌, ◌≤◌, Bool, true, false, List, [], ◌∷◌, ◌++◌, length, Some, ◌==◌, bit_and, bit_or, refl, sym, ap, subst, ◌∙◌, arith, append_assoc, append-nil}
+use Rattle.std.proofs.Common.{◌≡◌, inl, inr, ℕ, zero, suc, ◌+◌, ◌*◌, ◌%◌, ◌^◌, ◌<◌, ◌≤◌, Bool, true, false, List, [], ◌∷◌, length, Some, ◌==◌, bit_and, bit_or, refl, sym, ap, ◌∙◌, arith, append_assoc, append-nil}
 use Rattle.std.specs.Prelude.{nat_lt, nat_le, slice_index}
-use Rattle.std.specs.FinMap as map
 use Rattle.std.proofs.lemmas.Nat.{and_mask}
 use Rattle.std.proofs.lemmas.Bool.Decides.{nat_tests}
 use Rattle.br_words.specs.declared.operation.BinOp.TheVariants.{Add, And, Or, Slu, Ltu, Eq}
-use Rattle.br_words.specs.Words.{value_of_op, flag}
+use Rattle.br_words.specs.Words.{value_of_op}
 use Rattle.br_bytes.specs.declared.run.Event.{Event}
 use Rattle.br_bytes.specs.declared.run.Event.TheVariants.{Read, Write}
-use Rattle.br_bytes.specs.Memory.{Memory}
 use Rattle.br_syntax.specs.declared.program.Func.{Func}
-use Rattle.br_source_meaning.specs.Values.{Locals, no_locals}
+use Rattle.br_source_meaning.specs.Values.{no_locals}
 use Rattle.br_source_meaning.specs.Runs.{State, Callee, with_locals, run_all}
 use Rattle.br_source_meaning.specs.Calls.{run_function, function_of}
 use Rattle.br_judge.specs.Good.{OUT, is_accepted, with_light, light_of, set_light}

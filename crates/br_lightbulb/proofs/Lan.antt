@@ -1,5 +1,5 @@
 -- Words of the chip, at any depth of calls.
-use Rattle.std.proofs.Common.{◌≡◌, ℕ, zero, suc, List, [], ◌∷◌, sym, append-nil}
+use Rattle.std.proofs.Common.{ℕ, zero, suc, List, [], ◌∷◌, sym, append-nil}
 use Rattle.br_syntax.specs.declared.program.Func.{Func}
 use Rattle.br_source_meaning.specs.Runs.{State}
 use Rattle.br_source_meaning.specs.Calls.{function_of}

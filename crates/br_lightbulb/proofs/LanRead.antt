@@ -1,5 +1,5 @@
 -- A word of the chip is read.
-use Rattle.std.proofs.Common.{◌≡◌, ◌⊎◌, inl, inr, ℕ, zero, suc, ◌+◌, ◌*◌, ◌^◌, ◌<◌, ◌≤◌, true, false, List, [], ◌∷◌, ◌++◌, length, drop, Some, ◌==◌, refl, sym, ap, subst, ◌∙◌, arith, append_assoc, append-nil}
+use Rattle.std.proofs.Common.{◌≡◌, ◌⊎◌, inl, inr, ℕ, suc, ◌+◌, ◌*◌, ◌^◌, ◌<◌, ◌≤◌, true, false, List, [], ◌∷◌, ◌++◌, length, drop, Some, ◌==◌, refl, sym, ap, subst, ◌∙◌, arith, append_assoc, append-nil}
 use Rattle.std.proofs.lemmas.Grind.{or_before_shift}
 use Rattle.std.proofs.lemmas.Bool.Decides.{nat_tests}
 use Rattle.br_words.specs.declared.operation.BinOp.TheVariants.{Add, Or, Slu, Ltu}
@@ -9,16 +9,16 @@ use Rattle.br_bytes.specs.declared.run.Event.TheVariants.{Write}
 use Rattle.br_bytes.specs.Memory.{Memory}
 use Rattle.br_bytes.specs.Number.{number_of}
 use Rattle.br_source_meaning.specs.Values.{Locals, no_locals, with_local}
-use Rattle.br_source_meaning.specs.Runs.{State, Callee, set_to, with_locals, run_all}
+use Rattle.br_source_meaning.specs.Runs.{State, Callee, with_locals, run_all}
 use Rattle.br_source_meaning.specs.Calls.{run_function}
 use Rattle.br_judge.specs.Good.{CS, read_bytes, exchanges, failed_exchanges, read_word, failed_read}
 use Rattle.br_lightbulb.specs.Names as name
 use Rattle.br_lightbulb.specs.Lan.{lan_read}
 use Rattle.br_lightbulb.specs.Shows.{Begins, ShowsPiece, read_piece}
-use Rattle.br_lightbulb.proofs.Commands.{Exp, lit, var, op, Commands, done, set, cond, repeat, call, write}
+use Rattle.br_lightbulb.proofs.Commands.{lit, var, op, Commands, done, set, repeat, write}
 use Rattle.br_lightbulb.proofs.Leads.{Leads, Stopping, upon, at_state, ends, sets, first_of_two, second_of_two, writes, Turns, repeats}
-use Rattle.br_lightbulb.proofs.Transfers.{Sent, all_sent, some_exchanges, transfers, MayStop, Exchanges, exchanges_byte}
-use Rattle.br_lightbulb.proofs.Opening.{exchange, unless_bad, opening, Opened, opens}
+use Rattle.br_lightbulb.proofs.Transfers.{Sent, all_sent, some_exchanges, MayStop, Exchanges, exchanges_byte}
+use Rattle.br_lightbulb.proofs.Opening.{exchange, unless_bad, opening, opens}
 use Rattle.br_lightbulb.proofs.Spi.{Ended, shows-body, words_of_two}
 
 -- ---- the word, byte by byte

@@ -1,7 +1,7 @@
 -- A word of the chip is written.
-use Rattle.std.proofs.Common.{◌≡◌, ◌⊎◌, inl, inr, ℕ, zero, suc, ◌+◌, ◌/◌, ◌%◌, ◌^◌, ◌<◌, ◌≤◌, true, false, List, [], ◌∷◌, ◌++◌, drop, Some, bit_and, refl, sym, ap, subst, ◌∙◌, arith, append_assoc, append-nil}
+use Rattle.std.proofs.Common.{◌≡◌, ◌⊎◌, inl, inr, ℕ, zero, suc, ◌/◌, ◌<◌, ◌≤◌, List, [], ◌∷◌, ◌++◌, drop, Some, refl, sym, ap, subst, ◌∙◌, arith, append_assoc, append-nil}
 use Rattle.std.proofs.lemmas.Nat.{and_mask}
-use Rattle.br_words.specs.declared.operation.BinOp.TheVariants.{Add, And, Sru, Slu, Ltu}
+use Rattle.br_words.specs.declared.operation.BinOp.TheVariants.{And, Sru, Slu, Ltu}
 use Rattle.br_words.specs.Words.{value_of_op}
 use Rattle.br_bytes.specs.declared.run.Event.{Event}
 use Rattle.br_bytes.specs.declared.run.Event.TheVariants.{Write}
@@ -14,7 +14,7 @@ use Rattle.br_judge.specs.Good.{CS, write_bytes, exchanges, failed_exchanges, wr
 use Rattle.br_lightbulb.specs.Names as name
 use Rattle.br_lightbulb.specs.Lan.{lan_write}
 use Rattle.br_lightbulb.specs.Shows.{Begins, ShowsPiece, write_piece}
-use Rattle.br_lightbulb.proofs.Commands.{Exp, lit, var, op, Commands, done, set, repeat, write}
+use Rattle.br_lightbulb.proofs.Commands.{lit, var, op, Commands, done, repeat, write}
 use Rattle.br_lightbulb.proofs.Leads.{Leads, Stopping, upon, at_state, ends, sets, first_of_two, second_of_two, writes, Turns, repeats}
 use Rattle.br_lightbulb.proofs.Transfers.{Sent, all_sent, some_exchanges, MayStop, Exchanges, exchanges_byte}
 use Rattle.br_lightbulb.proofs.Opening.{exchange, unless_bad, opening, opens}

@@ -1,5 +1,5 @@
 -- Where commands lead, one command at a time. Of a state in which a run stops only its trace is asked.
-use Rattle.std.proofs.Common.{◌≡◌, ℕ, zero, suc, Bool, true, false, List, [], ◌∷◌, ◌++◌, Option, Some, codes, map, ◌==◌, refl, sym, ap, subst, ◌∙◌, append-nil}
+use Rattle.std.proofs.Common.{◌≡◌, ℕ, Bool, true, false, List, [], ◌∷◌, ◌++◌, Some, map, ◌==◌, refl, sym, subst, ◌∙◌, append-nil}
 use Rattle.br_words.specs.Device.{is_device_word}
 use Rattle.br_words.specs.Words.{flag}
 use Rattle.br_bytes.specs.declared.run.Choice.{Choice}
@@ -7,15 +7,14 @@ use Rattle.br_bytes.specs.declared.run.Event.{Event}
 use Rattle.br_bytes.specs.declared.run.Event.TheVariants.{Read, Write}
 use Rattle.br_bytes.specs.Memory.{Memory, put_number, with_bytes}
 use Rattle.br_bytes.specs.Buffers.{is_good, without_range}
-use Rattle.br_bytes.specs.Runs.{Goes, Ends, NoChoice, Returns, Stops, then_do, with_buffer, happens}
+use Rattle.br_bytes.specs.Runs.{Goes, Ends, Returns, Stops, then_do, with_buffer, happens}
 use Rattle.br_words.specs.declared.size.Size.TheVariants as size
-use Rattle.br_syntax.specs.declared.program.Expr.TheVariants as expr
 use Rattle.br_syntax.specs.declared.program.Cmd.TheVariants as cmd
 use Rattle.br_syntax.specs.declared.program.Cmd.TheOpen.{Cmd-F}
 use Rattle.br_source_meaning.specs.Values.{Name, Locals, with_local}
-use Rattle.br_source_meaning.specs.Runs.{State, Run, Returned, Callee, set_to, with_locals, run, run_all}
+use Rattle.br_source_meaning.specs.Runs.{State, Run, Returned, Callee, set_to, with_locals, run_all}
 use Rattle.br_lightbulb.specs.Shows.{Piece, Begins, ShowsPiece, ShowsEvents}
-use Rattle.br_lightbulb.proofs.Does.{Does, DoesCall, Turn, by_command, run-layer, does-then, does-set, does-first, does-second, does-read, does-write, does-call, does-while}
+use Rattle.br_lightbulb.proofs.Does.{Does, DoesCall, by_command, run-layer, does-set, does-first, does-second, does-read, does-write, does-call, does-while}
 use Rattle.br_lightbulb.proofs.Commands.{Exp, Commands, done, set, cond, repeat, call, read, write, store, buffer, tree, trees, val, vals, value_is, values_are}
 
 -- a trace in which a run may stop: after these events the first ones of the piece

@@ -1,16 +1,16 @@
 -- The firmware from its start on.
-use Rattle.std.proofs.Common.{◌≡◌, ◌≢◌, ◌⊎◌, inl, inr, ℕ, zero, suc, true, false, List, [], ◌∷◌, ◌++◌, Some, ◌==◌, refl, sym, ap, subst, ◌∙◌, append_assoc, append-nil}
+use Rattle.std.proofs.Common.{◌≡◌, ◌≢◌, ◌⊎◌, inl, inr, ℕ, suc, List, [], ◌∷◌, ◌++◌, Some, refl, sym, ap, subst, ◌∙◌, append_assoc, append-nil}
 use Rattle.br_words.specs.declared.operation.BinOp.TheVariants.{Eq}
 use Rattle.br_bytes.specs.declared.run.Choice.{Choice}
 use Rattle.br_bytes.specs.declared.run.Event.{Event}
 use Rattle.br_bytes.specs.declared.run.Outcome.TheVariants as outcome
 use Rattle.br_bytes.specs.Memory.{Memory}
-use Rattle.br_bytes.specs.Runs.{End, Waiting, OutOfFuel, Undefined, NoChoice, Goes, Ends, Returns, Stops, returned}
+use Rattle.br_bytes.specs.Runs.{End, Waiting, OutOfFuel, Undefined, NoChoice, Goes, Ends, returned}
 use Rattle.br_syntax.specs.declared.program.Func.{Func}
-use Rattle.br_source_meaning.specs.Values.{Locals, no_locals}
-use Rattle.br_source_meaning.specs.Runs.{State, Run, Returned, Callee, with_locals, run_all}
-use Rattle.br_source_meaning.specs.Calls.{words_of, run_function, function_of, outcome_of, seen, call as call_of}
-use Rattle.br_judge.specs.Languages.{◌▸◌, times, any_number}
+use Rattle.br_source_meaning.specs.Values.{no_locals}
+use Rattle.br_source_meaning.specs.Runs.{State, Run, Callee, with_locals, run_all}
+use Rattle.br_source_meaning.specs.Calls.{words_of, function_of, outcome_of, seen, call as call_of}
+use Rattle.br_judge.specs.Languages.{◌▸◌, any_number}
 use Rattle.br_judge.specs.Good as good
 use Rattle.br_judge.specs.Good.{failed_boot, Good, BeginsGood}
 use Rattle.br_lightbulb.specs.Names as name

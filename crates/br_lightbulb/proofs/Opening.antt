@@ -1,12 +1,12 @@
 -- The first three bytes of a transfer: the command and the address.
-use Rattle.std.proofs.Common.{◌≡◌, ℕ, ◌<◌, ◌/◌, ◌%◌, List, [], ◌∷◌, ◌++◌, Some, refl, sym, ap, subst, ◌∙◌, append_assoc}
+use Rattle.std.proofs.Common.{◌≡◌, ℕ, ◌/◌, ◌%◌, List, [], ◌∷◌, ◌++◌, Some, refl, ap}
 use Rattle.std.proofs.lemmas.Nat.{and_mask}
 use Rattle.br_words.specs.declared.operation.BinOp.TheVariants.{And, Sru}
 use Rattle.br_bytes.specs.declared.run.Choice.{Choice}
 use Rattle.br_bytes.specs.declared.run.Event.{Event}
 use Rattle.br_bytes.specs.Memory.{Memory}
 use Rattle.br_source_meaning.specs.Values.{Locals, with_local}
-use Rattle.br_source_meaning.specs.Runs.{State, Callee, set_to}
+use Rattle.br_source_meaning.specs.Runs.{State, Callee}
 use Rattle.br_judge.specs.Good.{failed_exchanges}
 use Rattle.br_lightbulb.specs.Names as name
 use Rattle.br_lightbulb.proofs.Commands.{Exp, lit, var, op, Commands, done, set, cond, call}

@@ -1,17 +1,16 @@
 -- One look at the chip.
-use Rattle.std.proofs.Common.{◌≡◌, ◌≢◌, ◌⊎◌, inl, inr, ℕ, zero, suc, ◌+◌, ◌%◌, ◌^◌, ◌<◌, ◌≤◌, Bool, true, false, List, [], ◌∷◌, ◌++◌, length, Option, Some, ◌==◌, ◌&&◌, refl, sym, ap, subst, ◌∙◌, arith, append_assoc, append-nil}
+use Rattle.std.proofs.Common.{◌≡◌, ◌≢◌, inl, inr, ℕ, zero, suc, ◌+◌, ◌%◌, ◌^◌, ◌≤◌, Bool, true, false, List, [], ◌∷◌, ◌++◌, length, Some, ◌==◌, ◌&&◌, refl, sym, ap, subst, ◌∙◌, arith, append_assoc, append-nil}
 use Rattle.std.specs.Prelude.{nat_le}
 use Rattle.std.proofs.lemmas.Bool.{eqb-true, leb-true}
 use Rattle.std.proofs.lemmas.Bool.Decides.{nat_tests}
 use Rattle.br_bytes.specs.declared.run.Choice.{Choice}
 use Rattle.br_bytes.specs.declared.run.Event.{Event}
-use Rattle.br_bytes.specs.declared.run.Event.TheVariants.{Read, Write}
 use Rattle.br_words.specs.Layout.{stack_base, stack_end}
 use Rattle.br_bytes.specs.Buffers.{is_good, are_free}
 use Rattle.br_bytes.specs.Memory.{Memory, with_bytes}
 use Rattle.br_bytes.specs.Runs.{Goes, Ends, Returns, Stops, returned}
 use Rattle.br_syntax.specs.declared.program.Func.{Func}
-use Rattle.br_source_meaning.specs.Values.{Name, Locals, no_locals, with_local}
+use Rattle.br_source_meaning.specs.Values.{no_locals}
 use Rattle.br_source_meaning.specs.Runs.{State, Run, Returned, Callee, with_locals, run_all}
 use Rattle.br_source_meaning.specs.Calls.{words_of, run_function, function_of}
 use Rattle.br_judge.specs.Good as good

@@ -1,5 +1,5 @@
 -- A frame is read into a buffer.
-use Rattle.std.proofs.Common.{◌≡◌, ◌⊎◌, inl, inr, ℕ, zero, suc, ◌+◌, ◌*◌, ◌/◌, ◌%◌, ◌^◌, ◌<◌, ◌≤◌, Bool, true, false, List, [], ◌∷◌, ◌++◌, length, take, get_or, Some, ◌==◌, refl, sym, ap, subst, ◌∙◌, arith, append_assoc, append-nil, length-append, length-take-le}
+use Rattle.std.proofs.Common.{◌≡◌, ◌⊎◌, inl, inr, ℕ, zero, suc, ◌+◌, ◌*◌, ◌^◌, ◌<◌, ◌≤◌, Bool, true, false, List, [], ◌∷◌, ◌++◌, length, Some, ◌==◌, refl, sym, ap, subst, ◌∙◌, arith, append_assoc, append-nil, length-append, length-take-le}
 use Rattle.std.specs.Prelude.{nat_lt, slice_index}
 use Rattle.std.specs.List.{flat_map}
 use Rattle.std.specs.FinMap as map
@@ -15,7 +15,7 @@ use Rattle.br_bytes.specs.Memory.{Memory, with_bytes}
 use Rattle.br_bytes.specs.Number.{low_bytes}
 use Rattle.br_bytes.specs.Runs.{Goes, Ends, returned}
 use Rattle.br_syntax.specs.declared.program.Func.{Func}
-use Rattle.br_source_meaning.specs.Values.{Name, Locals, no_locals, with_local}
+use Rattle.br_source_meaning.specs.Values.{no_locals}
 use Rattle.br_source_meaning.specs.Runs.{State, Run, Callee, with_locals, run_all}
 use Rattle.br_source_meaning.specs.Calls.{words_of, run_function, function_of}
 use Rattle.br_judge.specs.Languages.{Language, ◌▸◌, either, some}
@@ -211,29 +211,37 @@ got_word C l p w U es fs S t o g few r =
     stores {p = p + 4 * length g.ws} {v = w} {m = with_bytes t.memory (p + 4 * length g.ws) (low_bytes 4 w)}
     (rw (g.p_is, g.i) (ap Some (address p (4 * length g.ws) g.buffer.below room))) refl (stored t.memory p 1520 (4 * length g.ws) w g.buffer room)
     (ends (sets {v = 4 * length (g.ws ++ w ∷ [])} (rw g.i (ap Some (next_index (length g.ws) l g.ws w refl few)))
-    (ends (ends (es ++ fs, refl, inl (record {
-      ws = g.ws ++ w ∷ [];
-      few = omega (arith, length-append g.ws (w ∷ []));
-      i = refl;
-      n = g.n;
-      bad = refl;
-      p_is = g.p_is;
-      buffer = still_buffer t.memory p 1520 (p + 4 * length g.ws) (low_bytes 4 w) g.buffer (fits p (length g.ws) g.buffer.below room);
-      holds = holds_more t.memory p w g.ws g.buffer (omega arith) g.holds;
-      words = more_words g.ws w es fs g.words r;
-    })))))))
+    (ends (ends (
+      es ++ fs,
+      refl,
+      inl (record {
+        ws = g.ws ++ w ∷ [];
+        few = omega (arith, length-append g.ws (w ∷ []));
+        i = refl;
+        n = g.n;
+        bad = refl;
+        p_is = g.p_is;
+        buffer = still_buffer t.memory p 1520 (p + 4 * length g.ws) (low_bytes 4 w) g.buffer (fits p (length g.ws) g.buffer.below room);
+        holds = holds_more t.memory p w g.ws g.buffer (omega arith) g.holds;
+        words = more_words g.ws w es fs g.words r;
+      }),
+    ))))))
     (λ is. ends (sets {v = 4 * length (g.ws ++ w ∷ [])} (rw g.i (ap Some (next_index (length g.ws) l g.ws w refl few)))
-    (ends (ends (es ++ fs, refl, inl (record {
-      ws = g.ws ++ w ∷ [];
-      few = omega (arith, length-append g.ws (w ∷ []));
-      i = refl;
-      n = g.n;
-      bad = refl;
-      p_is = g.p_is;
-      buffer = g.buffer;
-      holds = holds_past t.memory p w g.ws (full (length g.ws) is) g.holds;
-      words = more_words g.ws w es fs g.words r;
-    }))))))
+    (ends (ends (
+      es ++ fs,
+      refl,
+      inl (record {
+        ws = g.ws ++ w ∷ [];
+        few = omega (arith, length-append g.ws (w ∷ []));
+        i = refl;
+        n = g.n;
+        bad = refl;
+        p_is = g.p_is;
+        buffer = g.buffer;
+        holds = holds_past t.memory p w g.ws (full (length g.ws) is) g.holds;
+        words = more_words g.ws w es fs g.words r;
+      }),
+    )))))
   where
     fits : (p k : ℕ) → p + 1520 ≤ 2 ^ 32 → 4 * k + 4 ≤ 1520 → p + 4 * k + 4 ≤ 2 ^ 32
     fits p k f room = omega arith

@@ -1,13 +1,13 @@
 -- The exchange of the bytes of a transfer, one after the other.
-use Rattle.std.proofs.Common.{◌≡◌, ◌⊎◌, inl, inr, ℕ, suc, ◌+◌, ◌<◌, ◌%◌, List, [], ◌∷◌, ◌++◌, Some, refl, sym, ap, subst, ◌∙◌, arith, append_assoc, append-nil, lit<}
+use Rattle.std.proofs.Common.{◌≡◌, inl, inr, ℕ, ◌<◌, List, [], ◌∷◌, ◌++◌, Some, refl, sym, ap, subst, ◌∙◌, arith, append_assoc, append-nil, lit<}
 use Rattle.br_bytes.specs.declared.run.Choice.{Choice}
 use Rattle.br_bytes.specs.declared.run.Event.{Event}
 use Rattle.br_bytes.specs.declared.run.Event.TheVariants.{Read, Write}
 use Rattle.br_bytes.specs.Memory.{Memory}
-use Rattle.br_source_meaning.specs.Values.{Name, Locals}
+use Rattle.br_source_meaning.specs.Values.{Locals}
 use Rattle.br_source_meaning.specs.Runs.{State, Callee, with_locals}
-use Rattle.br_judge.specs.Languages.{Language, ◌▸◌, either, some, times, up_to}
-use Rattle.br_judge.specs.Good.{TX, RX, busy, ready, spi_put, spi_get, exchange, failed_exchange, exchanges, failed_exchanges}
+use Rattle.br_judge.specs.Languages.{Language, either, some}
+use Rattle.br_judge.specs.Good.{TX, RX, busy, spi_put, spi_get, exchange, failed_exchange, exchanges, failed_exchanges}
 use Rattle.br_lightbulb.specs.Names as name
 use Rattle.br_lightbulb.specs.Shows.{Begins, ShowsPiece, exchange_piece}
 use Rattle.br_lightbulb.proofs.Commands.{Exp, Commands, val, call}

@@ -1,6 +1,6 @@
 -- The firmware's start, its poll and its main function, as trees with every offset 0, and all its
 -- functions.
-use Rattle.std.specs.Prelude.{ℕ, List, [], ◌∷◌}
+use Rattle.std.specs.Prelude.{List, [], ◌∷◌}
 use Rattle.br_words.specs.declared.operation.BinOp.TheVariants.{Sub, Or, Eq}
 use Rattle.br_syntax.specs.declared.program.Expr.TheVariants.{Literal, Var, Op}
 use Rattle.br_syntax.specs.declared.program.Cmd.TheVariants.{Set, Stackalloc, If, While, Call}

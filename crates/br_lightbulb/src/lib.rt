@@ -6,7 +6,10 @@ mod laws;
 mod text;
 
 pub use firmware::program;
-pub use laws::{bytes_show_pieces, words_show_pieces};
+pub use laws::{
+    boot_shows_piece, bytes_show_pieces, firmware_stays_good, frames_show_pieces, poll_shows_piece,
+    words_show_pieces,
+};
 pub use text::TEXT;
 
 #[cfg(test)]
