@@ -9,6 +9,7 @@ pub mod LanRead
 pub mod LanWrite
 pub mod Leads
 pub mod Main
+pub mod Offsets
 pub mod Opening
 pub mod Poll
 pub mod Receive

@@ -7,20 +7,23 @@ use Rattle.br_bytes.specs.declared.run.Outcome.TheVariants as outcome
 use Rattle.br_bytes.specs.Memory.{Memory}
 use Rattle.br_bytes.specs.Runs.{End, Waiting, OutOfFuel, Undefined, NoChoice, Goes, Ends, returned}
 use Rattle.br_syntax.specs.declared.program.Func.{Func}
+use Rattle.br_syntax.specs.Functions.{function_named}
+use Rattle.br_syntax.specs.Offsets.{IsEqualUpToOffsets}
 use Rattle.br_source_meaning.specs.Values.{no_locals}
-use Rattle.br_source_meaning.specs.Runs.{State, Run, Callee, with_locals, run_all}
+use Rattle.br_source_meaning.specs.Runs.{State, Run, Returned, Callee, with_locals, run_all}
 use Rattle.br_source_meaning.specs.Calls.{words_of, function_of, outcome_of, seen, call as call_of}
 use Rattle.br_judge.specs.Languages.{◌▸◌, any_number}
 use Rattle.br_judge.specs.Good as good
 use Rattle.br_judge.specs.Good.{failed_boot, Good, BeginsGood}
 use Rattle.br_lightbulb.specs.Names as name
-use Rattle.br_lightbulb.specs.Polls.{main}
+use Rattle.br_lightbulb.specs.Polls.{main, firmware}
 use Rattle.br_lightbulb.specs.Shows.{IsDefined, Begins, ShowsPiece, ShowsEvents, boot_piece, poll_piece, HasFirmware, StaysGood}
 use Rattle.br_lightbulb.proofs.Boot.{boots_start}
 use Rattle.br_lightbulb.proofs.Boots.{boot-pieces}
 use Rattle.br_lightbulb.proofs.Commands.{lit, var, op, Commands, done, repeat, call}
 use Rattle.br_lightbulb.proofs.Does.{Does}
 use Rattle.br_lightbulb.proofs.Leads.{Leads, upon, ends, shown, shown_events, Turns, repeats}
+use Rattle.br_lightbulb.proofs.Offsets.{equal_runs}
 use Rattle.br_lightbulb.proofs.Poll.{polls_start, poll-pieces}
 use Rattle.br_lightbulb.proofs.Spi.{word_of}
 use Rattle.br_lightbulb.proofs.Waiting.{times_zero, times_more}
@@ -127,3 +130,21 @@ pub stays_good : (fs : List Func) → HasFirmware fs → (m : Memory) (answers :
 stays_good fs has m answers choices fuel =
     shows (run_all (function_of fs fuel) main.body (record { locals = no_locals; memory = m; trace = []; answers = answers; choices = choices; fuel = fuel }))
     (runs (function_of fs fuel) m answers choices fuel (record { boots = boot-pieces fs has fuel; polls = poll-pieces fs has fuel })).does
+
+-- the functions of the firmware
+pub has_firmware : HasFirmware firmware
+has_firmware = record {
+  words = record { bytes = record { put = refl; get = refl; xchg = refl }; read = refl; write = refl };
+  boot = refl;
+  receive = refl;
+  handle = refl;
+  poll = refl;
+  main = refl;
+}
+
+-- and of each program that is equal to it up to offsets
+pub firmware_stays : (fs : List Func) (f : Func) → IsEqualUpToOffsets fs firmware → function_named fs name.main ≡ Some f →
+    (m : Memory) (answers : List ℕ) (choices : List Choice) (fuel : ℕ) → StaysGood (call_of fs f [] m answers choices fuel)
+firmware_stays fs f equal is m answers choices fuel =
+    subst (λ (r : Returned). StaysGood (seen r)) (sym (equal_runs fs firmware name.main f main equal is refl fuel [] (record { locals = no_locals; memory = m; trace = []; answers = answers; choices = choices; fuel = fuel })))
+    (stays_good firmware has_firmware m answers choices fuel)

@@ -1,13 +1,15 @@
 // What runs of the firmware's functions show. These functions do nothing: each contract is a law.
 
-ghost use Rattle.std.specs.Prelude.{ℕ, ◌+◌, ◌^◌, ◌≤◌, List, [], ◌∷◌, length};
+ghost use Rattle.std.specs.Prelude.{◌≡◌, ℕ, ◌+◌, ◌^◌, ◌≤◌, List, [], ◌∷◌, length, Some};
 ghost use Rattle.br_bytes.specs.declared.run.Choice.{Choice};
 ghost use Rattle.br_bytes.specs.Memory.{Memory};
 ghost use Rattle.br_syntax.specs.declared.program.Func.{Func};
+ghost use Rattle.br_syntax.specs.Functions.{function_named};
+ghost use Rattle.br_syntax.specs.Offsets.{IsEqualUpToOffsets};
 ghost use Rattle.br_source_meaning.specs.Runs.{State};
 ghost use Rattle.br_source_meaning.specs.Calls.{function_of, call};
 ghost use Rattle.br_lightbulb.specs.Names as name;
-ghost use Rattle.br_lightbulb.specs.Polls.{main};
+ghost use Rattle.br_lightbulb.specs.Polls.{firmware};
 ghost use Rattle.br_lightbulb.specs.Shows.{
   HasSpi,
   HasLan,
@@ -73,10 +75,10 @@ pub fn poll_shows_piece()
         ShowsEvents s poll_piece (function_of fs depth name.poll [] s) }
 {}
 
-/// The firmware from its start on: with any memory, whatever the devices answer, wherever its buffers
-/// are placed, and with any fuel, no run of `main` is undefined, and a member of the trace language
-/// begins with its events.
+/// The firmware from its start on, and each program that differs from it in offsets at most: with any
+/// memory, whatever the devices answer, wherever its buffers are placed, and with any fuel, no run of
+/// `main` is undefined, and a member of the trace language begins with its events.
 pub fn firmware_stays_good()
-    ensures { (fs : List Func) → HasFirmware fs → (m : Memory) (answers : List ℕ) (choices : List Choice) (fuel : ℕ) →
-        StaysGood (call fs main [] m answers choices fuel) }
+    ensures { (fs : List Func) (f : Func) → IsEqualUpToOffsets fs firmware → function_named fs name.main ≡ Some f →
+        (m : Memory) (answers : List ℕ) (choices : List Choice) (fuel : ℕ) → StaysGood (call fs f [] m answers choices fuel) }
 {}
