@@ -16,15 +16,18 @@ use Rattle.br_compile.specs.declared.refusal.Refusal.TheVariants.{InputTooLong, 
 use Rattle.br_compile.specs.Refusal.{Accepts, IsRefusal}
 use Rattle.br_compile.specs.Implements.{Implements}
 use Rattle.br_top.specs.declared.command.Command.{Command}
-use Rattle.br_top.specs.declared.command.Command.TheVariants.{Compile, Print, List as Listing}
+use Rattle.br_top.specs.declared.command.Command.TheVariants.{Compile, Print, List as Listing, Run, Interp}
 use Rattle.br_top.specs.declared.trouble.Reason.{Reason}
 use Rattle.br_top.specs.declared.trouble.Reason.TheVariants.{TooLong, Source, Image}
+use Rattle.br_top.specs.Scripted.{AddsRun, AddsInterp, RefusesRun, RefusesInterp}
 
 -- the words of a command
 abbrev pub words_of : Command → List (List ℕ)
 words_of Compile = codes "compile" ∷ []
 words_of Print = codes "print" ∷ []
 words_of Listing = codes "list" ∷ []
+words_of Run = codes "run" ∷ []
+words_of Interp = codes "interp" ∷ []
 
 -- these texts are the words of the command
 abbrev pub AreWordsOf : List (String Global) → Command → Type 0
@@ -39,12 +42,16 @@ abbrev pub reads_input : Command → Bool
 reads_input Compile = true
 reads_input Print = true
 reads_input Listing = true
+reads_input Run = true
+reads_input Interp = true
 
 -- how many bytes of input a command reads at most
 abbrev pub limit_of : Command → ℕ
 limit_of Compile = 1048576
 limit_of Print = 1048576
 limit_of Listing = 16777216
+limit_of Run = 16777216
+limit_of Interp = 16777216
 
 -- the text of an image that implements the program of these bytes, which are an accepted text
 pub record AddsImage (bytes text : List ℕ) : Type 0 where
@@ -73,6 +80,8 @@ abbrev pub Adds : Command → List ℕ → List ℕ → Type 0
 Adds Compile bytes text = AddsImage bytes text
 Adds Print bytes text = AddsCanonical bytes text
 Adds Listing bytes text = AddsListing bytes text
+Adds Run bytes text = AddsRun bytes text
+Adds Interp bytes text = AddsInterp bytes text
 
 -- the refusal is for a fault of the text or of its shape, which come before all others
 abbrev pub IsOfShape : Refusal → Type 0
@@ -86,8 +95,10 @@ IsOfShape (NotYet at) = ⊥
 abbrev pub Refuses : Command → List ℕ → Reason → Type 0
 Refuses command bytes TooLong = limit_of command < length bytes
 Refuses Compile bytes (Source refusal) = IsRefusal bytes refusal
-Refuses Compile bytes (Image fault) = ⊥
+Refuses Compile bytes other = ⊥
 Refuses Print bytes (Source refusal) = IsRefusal bytes refusal × IsOfShape refusal
-Refuses Print bytes (Image fault) = ⊥
-Refuses Listing bytes (Source refusal) = ⊥
+Refuses Print bytes other = ⊥
 Refuses Listing bytes (Image fault) = IsFault bytes fault
+Refuses Listing bytes other = ⊥
+Refuses Run bytes reason = RefusesRun bytes reason
+Refuses Interp bytes reason = RefusesInterp bytes reason

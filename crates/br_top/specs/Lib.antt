@@ -3,4 +3,5 @@ pub mod Commands
 pub mod Lines
 pub mod Refusals
 pub mod Reports
+pub mod Scripted
 pub mod Troubles

@@ -12,8 +12,10 @@ use Rattle.br_compile.specs.declared.refusal.Refusal.{Refusal}
 use Rattle.br_compile.specs.declared.refusal.Refusal.TheVariants.{InputTooLong, Text, Shape, Names, NotYet}
 use Rattle.br_image.specs.declared.faults.ImageFault.{ImageFault}
 use Rattle.br_image.specs.declared.faults.ImageFault.TheVariants.{BadLine, BadOrder, BadOffset, Truncated}
+use Rattle.br_image.specs.declared.scripts.values.ScriptFault.{ScriptFault}
+use Rattle.br_image.specs.declared.scripts.values.ScriptFault.TheVariants.{BadScriptLine, ScriptEnds}
 use Rattle.br_top.specs.declared.trouble.Reason.{Reason}
-use Rattle.br_top.specs.declared.trouble.Reason.TheVariants.{TooLong, Source, Image}
+use Rattle.br_top.specs.declared.trouble.Reason.TheVariants.{TooLong, Source, Image, Script, TextTooLong, UnknownEntry, WrongCount}
 use Rattle.br_top.specs.Lines.{error_line}
 
 -- each number in decimal, after one space
@@ -61,7 +63,15 @@ image_fault_line (BadOrder n) = refused_line (codes "BadOrder") (n ∷ [])
 image_fault_line (BadOffset n) = refused_line (codes "BadOffset") (n ∷ [])
 image_fault_line (Truncated n) = refused_line (codes "Truncated") (n ∷ [])
 
+abbrev pub script_fault_line : ScriptFault → List ℕ
+script_fault_line (BadScriptLine n) = refused_line (codes "BadScriptLine") (n ∷ [])
+script_fault_line (ScriptEnds n) = refused_line (codes "ScriptEnds") (n ∷ [])
+
 abbrev pub reason_line : Reason → List ℕ
 reason_line TooLong = refused_line (codes "InputTooLong") []
 reason_line (Source refusal) = refusal_line refusal
 reason_line (Image fault) = image_fault_line fault
+reason_line (Script fault) = script_fault_line fault
+reason_line TextTooLong = refused_line (codes "TextTooLong") []
+reason_line UnknownEntry = refused_line (codes "UnknownEntry") []
+reason_line (WrongCount count) = refused_line (codes "WrongCount") (count ∷ [])

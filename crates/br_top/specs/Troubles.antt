@@ -6,11 +6,13 @@ use Rattle.br_base.specs.declared.failure.OrMemory.{OrMemory}
 use Rattle.br_base.specs.declared.failure.OrMemory.TheVariants.{Memory as Wanting, Fault}
 use Rattle.br_sexpr.specs.declared.tree.TextFault.{TextFault}
 use Rattle.br_syntax.specs.declared.fault.ShapeFault.{ShapeFault}
+use Rattle.br_measure.specs.declared.fault.NameFault.{NameFault}
 use Rattle.br_image.specs.declared.faults.ImageFault.{ImageFault}
+use Rattle.br_image.specs.declared.scripts.values.ScriptFault.{ScriptFault}
 use Rattle.br_compile.specs.declared.refusal.Refusal.{Refusal}
-use Rattle.br_compile.specs.declared.refusal.Refusal.TheVariants.{Text, Shape}
+use Rattle.br_compile.specs.declared.refusal.Refusal.TheVariants.{Text, Shape, Names}
 use Rattle.br_top.specs.declared.trouble.Reason.{Reason}
-use Rattle.br_top.specs.declared.trouble.Reason.TheVariants.{TooLong, Source, Image}
+use Rattle.br_top.specs.declared.trouble.Reason.TheVariants.{TooLong, Source, Image, Script}
 use Rattle.br_top.specs.declared.trouble.Trouble.{Trouble}
 use Rattle.br_top.specs.declared.trouble.Trouble.TheVariants.{Memory, ReadFault, Refused}
 
@@ -33,8 +35,14 @@ text_reason fault = Source (Text fault)
 abbrev pub shape_reason : ShapeFault → Reason
 shape_reason fault = Source (Shape fault)
 
+abbrev pub name_reason : NameFault → Reason
+name_reason fault = Source (Names fault)
+
 abbrev pub image_reason : ImageFault → Reason
 image_reason fault = Image fault
+
+abbrev pub script_reason : ScriptFault → Reason
+script_reason fault = Script fault
 
 -- work that reads nothing stopped for want of memory, or it refuses for a reason of which this holds
 abbrev pub IsRefusedFor : (Reason → Type 0) → Trouble → Type 0

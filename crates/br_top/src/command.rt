@@ -12,6 +12,10 @@ pub enum Command {
     Print,
     /// From the text of an image on the input to its listing.
     List,
+    /// From a run script and the text of an image on the input to what the run shows.
+    Run,
+    /// From an interp script and a source text on the input to what the run shows.
+    Interp,
 }
 
 /// The command with these words, which leave out the program's own name.
@@ -22,6 +26,8 @@ pub(crate) fn command_of(words: &[String]) -> Option<Command>
         [word] if is_text(word, "compile") => Some(Command::Compile),
         [word] if is_text(word, "print") => Some(Command::Print),
         [word] if is_text(word, "list") => Some(Command::List),
+        [word] if is_text(word, "run") => Some(Command::Run),
+        [word] if is_text(word, "interp") => Some(Command::Interp),
         _ => None,
     }
 }
@@ -33,10 +39,10 @@ fn is_text(word: &String, text: &str) -> bool
 }
 
 /// How many bytes a source text has at most.
-const SOURCE_LIMIT: usize = 1_048_576;
+pub(crate) const SOURCE_LIMIT: usize = 1_048_576;
 
-/// How many bytes the text of an image has at most.
-const IMAGE_LIMIT: usize = 16_777_216;
+/// How many bytes any other input has at most, a script and a text after it together.
+const OTHER_LIMIT: usize = 16_777_216;
 
 /// How many bytes of input a command reads at most.
 pub(crate) fn limit_of(command: Command) -> usize
@@ -44,6 +50,6 @@ pub(crate) fn limit_of(command: Command) -> usize
 {
     match command {
         Command::Compile | Command::Print => SOURCE_LIMIT,
-        Command::List => IMAGE_LIMIT,
+        Command::List | Command::Run | Command::Interp => OTHER_LIMIT,
     }
 }

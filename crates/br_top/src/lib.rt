@@ -4,9 +4,11 @@
 
 mod command;
 mod delivery;
+mod interps;
 mod lines;
 mod making;
 mod refusal_lines;
+mod runs;
 #[cfg(test)]
 mod tests;
 mod top;

@@ -8,6 +8,8 @@ ghost use Rattle.br_top.specs.Answers.{ReadsAll, ReadsRefused, IsUnrefused};
 ghost use Rattle.br_top.specs.Troubles.{IsRefusedFor};
 
 use crate::command::{Command, limit_of};
+use crate::interps::interp_output;
+use crate::runs::run_output;
 use crate::trouble::Trouble;
 use br_base::{Source, read_all};
 use br_compile::compile;
@@ -45,6 +47,8 @@ fn text_of(alloc: Global, command: Command, bytes: &[u8]) -> Result<Vec<u8>, Tro
         Command::Compile => image_text(alloc, bytes),
         Command::Print => canonical_text(alloc, bytes),
         Command::List => listing_text(alloc, bytes),
+        Command::Run => run_output(alloc, bytes),
+        Command::Interp => interp_output(alloc, bytes),
     }
 }
 

@@ -2,12 +2,12 @@
 
 ghost use Rattle.std.specs.Prelude.{◌≡◌, ◌++◌, ◌∷◌, IfOk, OnOk};
 ghost use Rattle.std.specs.Fmt.{decimal};
-ghost use Rattle.br_top.specs.Refusals.{number_fields, refused_line, text_fault_line, shape_fault_line, name_fault_line, refusal_line, image_fault_line, reason_line};
+ghost use Rattle.br_top.specs.Refusals.{number_fields, refused_line, text_fault_line, shape_fault_line, name_fault_line, refusal_line, image_fault_line, script_fault_line, reason_line};
 
 use crate::trouble::Reason;
 use br_base::NoMemory;
 use br_compile::Refusal;
-use br_image::ImageFault;
+use br_image::{ImageFault, ScriptFault};
 use br_measure::NameFault;
 use br_sexpr::TextFault;
 use br_syntax::ShapeFault;
@@ -21,6 +21,10 @@ pub(crate) fn reason_line(alloc: Global, reason: &Reason) -> Result<Vec<u8>, NoM
         Reason::TooLong => refused_line(alloc, "InputTooLong", &[]),
         Reason::Source(refusal) => refusal_line(alloc, refusal),
         Reason::Image(fault) => image_fault_line(alloc, *fault),
+        Reason::Script(fault) => script_fault_line(alloc, *fault),
+        Reason::TextTooLong => refused_line(alloc, "TextTooLong", &[]),
+        Reason::UnknownEntry => refused_line(alloc, "UnknownEntry", &[]),
+        Reason::WrongCount(count) => refused_line(alloc, "WrongCount", &[*count]),
     }
 }
 
@@ -85,6 +89,15 @@ fn image_fault_line(alloc: Global, fault: ImageFault) -> Result<Vec<u8>, NoMemor
         ImageFault::BadOrder(line) => refused_line(alloc, "BadOrder", &[line]),
         ImageFault::BadOffset(line) => refused_line(alloc, "BadOffset", &[line]),
         ImageFault::Truncated(line) => refused_line(alloc, "Truncated", &[line]),
+    }
+}
+
+fn script_fault_line(alloc: Global, fault: ScriptFault) -> Result<Vec<u8>, NoMemory>
+    ensures { IfOk result (λ line. line.items ≡ script_fault_line fault) }
+{
+    match fault {
+        ScriptFault::BadScriptLine(line) => refused_line(alloc, "BadScriptLine", &[line]),
+        ScriptFault::ScriptEnds(line) => refused_line(alloc, "ScriptEnds", &[line]),
     }
 }
 

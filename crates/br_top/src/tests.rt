@@ -1,5 +1,7 @@
 // The top call over ends in memory.
 
+mod scripts;
+
 ghost use Rattle.std.specs.Prelude.{◌≢◌};
 
 use crate::{tool, usage_line};

@@ -4,7 +4,8 @@ ghost use Rattle.std.specs.Prelude.{◌≡◌};
 
 use br_base::{NoMemory, OrMemory, ReadEnd};
 use br_compile::Refusal;
-use br_image::ImageFault;
+use br_image::{ImageFault, ScriptFault};
+use br_measure::NameFault;
 use br_sexpr::TextFault;
 use br_syntax::ShapeFault;
 
@@ -17,6 +18,14 @@ pub enum Reason {
     Source(Refusal),
     /// It is the text of no image.
     Image(ImageFault),
+    /// It does not begin with a script.
+    Script(ScriptFault),
+    /// The source text after a script has more than 1,048,576 bytes.
+    TextTooLong,
+    /// No function has the name that a script calls.
+    UnknownEntry,
+    /// The function that a script calls takes this number of arguments, and the script has another.
+    WrongCount(u32),
 }
 
 /// Why there is no text.
@@ -102,6 +111,32 @@ impl From<OrMemory<ImageFault>> for Trouble {
         match cause {
             OrMemory::Memory => Trouble::Memory,
             OrMemory::Fault(fault) => Trouble::Refused(Reason::Image(fault)),
+        }
+    }
+}
+
+impl From<OrMemory<NameFault>> for Trouble {
+    ghost use Rattle.br_top.specs.Troubles.{trouble_of, name_reason};
+
+    ghost from_gives = { λ cause trouble. trouble ≡ trouble_of name_reason cause };
+
+    fn from(cause: OrMemory<NameFault>) -> Trouble {
+        match cause {
+            OrMemory::Memory => Trouble::Memory,
+            OrMemory::Fault(fault) => Trouble::Refused(Reason::Source(Refusal::Names(fault))),
+        }
+    }
+}
+
+impl From<OrMemory<ScriptFault>> for Trouble {
+    ghost use Rattle.br_top.specs.Troubles.{trouble_of, script_reason};
+
+    ghost from_gives = { λ cause trouble. trouble ≡ trouble_of script_reason cause };
+
+    fn from(cause: OrMemory<ScriptFault>) -> Trouble {
+        match cause {
+            OrMemory::Memory => Trouble::Memory,
+            OrMemory::Fault(fault) => Trouble::Refused(Reason::Script(fault)),
         }
     }
 }

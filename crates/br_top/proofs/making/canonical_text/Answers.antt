@@ -6,7 +6,7 @@ use Rattle.br_syntax.specs.declared.program.Func.{Func}
 use Rattle.br_syntax.specs.Denotes.{Denotes}
 use Rattle.br_compile.specs.declared.refusal.Refusal.TheVariants.{InputTooLong, Text, Shape, Names, NotYet}
 use Rattle.br_top.specs.declared.command.Command.TheVariants.{Print}
-use Rattle.br_top.specs.declared.trouble.Reason.TheVariants.{TooLong, Source, Image}
+use Rattle.br_top.specs.declared.trouble.Reason.TheVariants.{TooLong, Source, Image, Script, TextTooLong, UnknownEntry, WrongCount}
 use Rattle.br_top.specs.Answers.{IsUnrefused}
 use Rattle.br_top.proofs.making.canonical_text.Goals as goal
 
@@ -33,6 +33,10 @@ unrefused not_both one bytes trees program short read denoted (Source (Shape fau
 unrefused not_both one bytes trees program short read denoted (Source (Names fault)) refused = absurd refused.1
 unrefused not_both one bytes trees program short read denoted (Source (NotYet at)) refused = absurd refused.1
 unrefused not_both one bytes trees program short read denoted (Image fault) refused = refused
+unrefused not_both one bytes trees program short read denoted (Script fault) refused = refused
+unrefused not_both one bytes trees program short read denoted TextTooLong refused = refused
+unrefused not_both one bytes trees program short read denoted UnknownEntry refused = refused
+unrefused not_both one bytes trees program short read denoted (WrongCount count) refused = refused
 
 -- what is read as trees that stand for a program has no fault of the text or of its shape
 pub returns-clause-unrefused : goal.returns-clause-unrefused
