@@ -3,6 +3,7 @@ pub mod Boots
 pub mod Buffers
 pub mod Commands
 pub mod Does
+pub mod Forest
 pub mod Handle
 pub mod Lan
 pub mod LanRead
@@ -11,8 +12,10 @@ pub mod Leads
 pub mod Main
 pub mod Offsets
 pub mod Opening
+pub mod Placed
 pub mod Poll
 pub mod Receive
+pub mod Source
 pub mod Spi
 pub mod Transfers
 pub mod Waiting

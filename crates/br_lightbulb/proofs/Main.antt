@@ -23,7 +23,7 @@ use Rattle.br_lightbulb.proofs.Boots.{boot-pieces}
 use Rattle.br_lightbulb.proofs.Commands.{lit, var, op, Commands, done, repeat, call}
 use Rattle.br_lightbulb.proofs.Does.{Does}
 use Rattle.br_lightbulb.proofs.Leads.{Leads, upon, ends, shown, shown_events, Turns, repeats}
-use Rattle.br_lightbulb.proofs.Offsets.{equal_runs}
+use Rattle.br_lightbulb.proofs.Offsets.{equal_runs, has_too}
 use Rattle.br_lightbulb.proofs.Poll.{polls_start, poll-pieces}
 use Rattle.br_lightbulb.proofs.Spi.{word_of}
 use Rattle.br_lightbulb.proofs.Waiting.{times_zero, times_more}
@@ -141,6 +141,9 @@ has_firmware = record {
   poll = refl;
   main = refl;
 }
+
+pub has_main : (fs : List Func) → IsEqualUpToOffsets fs firmware → (f : Func) × (function_named fs name.main ≡ Some f)
+has_main fs equal = has_too fs firmware name.main main equal refl
 
 -- and of each program that is equal to it up to offsets
 pub firmware_stays : (fs : List Func) (f : Func) → IsEqualUpToOffsets fs firmware → function_named fs name.main ≡ Some f →

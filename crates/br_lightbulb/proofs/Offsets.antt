@@ -102,3 +102,11 @@ equal_runs fs gs x f g equal fs_has gs_has depth args s =
     sym (ap (λ (o : Option Func). enter (function_of fs depth) o args s) fs_has)
     ∙ ap (λ (C : Callee). C x args s) (equal_calls fs gs equal (suc depth))
     ∙ ap (λ (o : Option Func). enter (function_of gs depth) o args s) gs_has
+
+-- and have functions of the same names
+pub has_too : (fs gs : List Func) (x : Name) (g : Func) → IsEqualUpToOffsets fs gs → function_named gs x ≡ Some g → (f : Func) × (function_named fs x ≡ Some f)
+has_too fs gs x g equal gs_has = by (function_named fs x) (sym (named_same fs x) ∙ ap (λ (hs : List Func). function_named hs x) equal ∙ named_same gs x ∙ ap (option_map unplaced_function) gs_has)
+  where
+    by : (o : Option Func) → option_map unplaced_function o ≡ Some (unplaced_function g) → (f : Func) × (o ≡ Some f)
+    by None h = cc
+    by (Some f) h = (f, refl)

@@ -8,6 +8,7 @@ ghost use Rattle.br_syntax.specs.Functions.{function_named};
 ghost use Rattle.br_syntax.specs.Offsets.{IsEqualUpToOffsets};
 ghost use Rattle.br_source_meaning.specs.Runs.{State};
 ghost use Rattle.br_source_meaning.specs.Calls.{function_of, call};
+ghost use Rattle.br_lightbulb.specs.Firmware.{IsFirmwareUpToOffsets};
 ghost use Rattle.br_lightbulb.specs.Names as name;
 ghost use Rattle.br_lightbulb.specs.Polls.{firmware};
 ghost use Rattle.br_lightbulb.specs.Shows.{
@@ -75,10 +76,17 @@ pub fn poll_shows_piece()
         ShowsEvents s poll_piece (function_of fs depth name.poll [] s) }
 {}
 
-/// The firmware from its start on, and each program that differs from it in offsets at most: with any
-/// memory, whatever the devices answer, wherever its buffers are placed, and with any fuel, no run of
-/// `main` is undefined, and a member of the trace language begins with its events.
+/// The firmware is these trees: each program that its text stands for is equal to them up to offsets,
+/// and has a function `main`.
+pub fn text_stands_for_trees()
+    ensures trees { (fs : List Func) → IsFirmwareUpToOffsets fs → IsEqualUpToOffsets fs firmware }
+    ensures main { (fs : List Func) → IsFirmwareUpToOffsets fs → (f : Func) × (function_named fs name.main ≡ Some f) }
+{}
+
+/// The firmware from its start on: with any memory, whatever the devices answer, wherever its buffers
+/// are placed, and with any fuel, no run of `main` is undefined, and a member of the trace language
+/// begins with its events.
 pub fn firmware_stays_good()
-    ensures { (fs : List Func) (f : Func) → IsEqualUpToOffsets fs firmware → function_named fs name.main ≡ Some f →
+    ensures { (fs : List Func) (f : Func) → IsFirmwareUpToOffsets fs → function_named fs name.main ≡ Some f →
         (m : Memory) (answers : List ℕ) (choices : List Choice) (fuel : ℕ) → StaysGood (call fs f [] m answers choices fuel) }
 {}

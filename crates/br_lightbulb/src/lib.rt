@@ -8,7 +8,7 @@ mod text;
 pub use firmware::program;
 pub use laws::{
     boot_shows_piece, bytes_show_pieces, firmware_stays_good, frames_show_pieces, poll_shows_piece,
-    words_show_pieces,
+    text_stands_for_trees, words_show_pieces,
 };
 pub use text::TEXT;
 
