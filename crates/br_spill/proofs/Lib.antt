@@ -8,3 +8,9 @@ pub mod Calls
 pub mod Statements
 pub mod Functions
 pub mod Programs
+pub mod Neutral
+pub mod Sizes
+pub mod Bulk
+pub mod Form
+pub mod Formed
+pub mod Layouts

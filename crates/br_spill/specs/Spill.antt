@@ -2,7 +2,7 @@
 -- a word of one buffer that stands around the body of its function. A word of the buffer is loaded to a spare
 -- register before it is read and stored from one after it is written. Words are passed in registers that hold
 -- no name.
-use Rattle.std.specs.Prelude.{◌≡◌, ℕ, zero, suc, ◌+◌, ◌-◌, ◌*◌, ◌^◌, ◌<◌, Bool, true, ◌&&◌, ◌||◌, List, [], ◌∷◌, ◌++◌, map, length, IsTrue, nat_lt, nat_le, ◌==◌, pos, if◌then◌else◌}
+use Rattle.std.specs.Prelude.{◌≡◌, ℕ, zero, suc, ◌+◌, ◌-◌, ◌*◌, ◌^◌, ◌<◌, ◌≤◌, Bool, true, ◌&&◌, ◌||◌, List, [], ◌∷◌, ◌++◌, map, sum, length, IsTrue, nat_lt, nat_le, ◌==◌, pos, if◌then◌else◌}
 use Rattle.std.specs.List.{flat_map, list_all}
 use Rattle.br_words.specs.declared.operation.BinOp.TheVariants.{Add}
 use Rattle.br_words.specs.declared.size.Size.TheVariants.{Four}
@@ -16,6 +16,7 @@ use Rattle.br_flatimp.specs.declared.program.Stmt.TheViews.{roll-Stmt}
 use Rattle.br_flatimp.specs.declared.program.Stmt.TheFolds.{fold-Stmt}
 use Rattle.br_flatimp.specs.declared.program.FlatFunc.{FlatFunc}
 use Rattle.br_flatimp.specs.Parts.{throughout}
+use Rattle.br_flatimp.specs.Sizes.{added}
 
 -- ---- places
 
@@ -46,8 +47,7 @@ is_inside slots (Slot k) = nat_lt k slots
 pub record Fits (names : ℕ) (l : Layout) : Type 0 where
   pub inside : (x : ℕ) → x < names → IsTrue (is_inside l.slots (l.place x))
   pub apart : (x y : ℕ) → x < names → y < names → l.place x ≡ l.place y → x ≡ y
-  -- the buffer is no larger than the stack region
-  pub few : 4 * l.slots < 2 ^ 32
+  pub few : l.slots ≤ names
 
 -- ---- words of the buffer
 
@@ -186,6 +186,27 @@ SpilledFunctions (q ∷ qs) (p ∷ ps) = ((l : Layout) × Fits p.names l × (q �
 SpilledFunctions [] (p ∷ ps) = ⊥
 SpilledFunctions (q ∷ qs) [] = ⊥
 
+-- ---- buffers
+
+-- a buffer counts 1
+abbrev pub own_buffers : {X : Type 0} → Stmt-F X → ℕ
+own_buffers (Stmt-F.Stackalloc x n body) = 1
+own_buffers (Stmt-F.Lit x n) = 0
+own_buffers (Stmt-F.Copy x y) = 0
+own_buffers (Stmt-F.Op x op y z) = 0
+own_buffers (Stmt-F.Load x size y offset) = 0
+own_buffers (Stmt-F.Store size y z offset) = 0
+own_buffers (Stmt-F.Table x size bytes y) = 0
+own_buffers (Stmt-F.If test first second) = 0
+own_buffers (Stmt-F.Loop first test last) = 0
+own_buffers (Stmt-F.Call xs g ys) = 0
+own_buffers (Stmt-F.Read x y) = 0
+own_buffers (Stmt-F.Write y z) = 0
+
+-- how many Stackallocs stand in a function
+abbrev pub buffers : FlatFunc → ℕ
+buffers f = sum (map (added own_buffers) f.body)
+
 -- ---- numbers that are words
 
 -- a literal is a word, and a table has bytes, as the types of statements say
@@ -211,14 +232,11 @@ HasWords fs = IsTrue (list_all function_words_fit fs)
 
 -- ---- the layout of a count of names
 
--- Up to 21 names have registers alone. Of more, the first 18 have registers.
-abbrev pub first_register : ℕ → ℕ
-first_register names = if nat_le names 21 then 3 else 6
-
 -- the name numbered x in registers from `first` to 9, and from 18 on
 abbrev pub register_of : ℕ → ℕ → ℕ
 register_of first x = if nat_lt x (10 - first) then first + x else x + first + 8
 
+-- Up to 21 names have registers alone. Of more, the first 18 have registers.
 abbrev pub layout_of : ℕ → Layout
 layout_of names =
     if nat_le names 21 then record { place = λ x. Register (register_of 3 x); slots = 0 }

@@ -1,11 +1,13 @@
 // What holds of flat programs in register form. These functions do nothing: each contract is a law of
 // the definitions.
 
-ghost use Rattle.std.specs.Prelude.{List};
+ghost use Rattle.std.specs.Prelude.{◌≡◌, ℕ, List, ◌+◌, ◌*◌, ◌≤◌, map, sum};
 ghost use Rattle.br_flatimp.specs.Refines.{Refines, meaning};
-ghost use Rattle.br_flatimp.specs.WellFormed.{IsWellFormed};
+ghost use Rattle.br_flatimp.specs.Parts.{callees};
+ghost use Rattle.br_flatimp.specs.Sizes.{flat_bulk, function_bulk, nest, units};
+ghost use Rattle.br_flatimp.specs.WellFormed.{IsRegisterForm, IsWellFormed};
 ghost use Rattle.br_flatimp.specs.declared.program.FlatFunc.{FlatFunc};
-ghost use Rattle.br_spill.specs.Spill.{HasWords, SpilledFunctions};
+ghost use Rattle.br_spill.specs.Spill.{Fits, HasWords, Layout, SpilledFunctions, buffers, layout_of, spilled_function, spilled_program};
 
 use br_words::operations_answer_words;
 
@@ -17,3 +19,26 @@ pub fn spilled_programs_refine()
 {
     operations_answer_words();
 }
+
+/// They are well formed and in register form.
+pub fn spilled_programs_are_in_register_form()
+    ensures { (qs ps : List FlatFunc) → IsWellFormed ps → SpilledFunctions qs ps → IsRegisterForm qs }
+{}
+
+/// Sizes of a function in register form: its flat bulk is at most 24 times the units of the one that it
+/// comes from, its buffers nested in one another have at most 4 bytes more for each name, it calls the
+/// same functions, and it has the same buffers where no name has a place in memory.
+pub fn spilled_functions_keep_sizes()
+    ensures flat_bulk { (qs ps : List FlatFunc) → SpilledFunctions qs ps → flat_bulk qs ≤ 24 * sum (map units ps) }
+    ensures bulk { (l : Layout) (f : FlatFunc) → function_bulk (spilled_function l f) ≤ 24 * units f }
+    ensures nest { (l : Layout) (f : FlatFunc) → Fits f.names l → nest (spilled_function l f) ≤ nest f + 4 * f.names }
+    ensures callees { (l : Layout) (f : FlatFunc) → callees (spilled_function l f) ≡ callees f }
+    ensures buffers { (l : Layout) (f : FlatFunc) → l.slots ≡ 0 → buffers (spilled_function l f) ≡ buffers f }
+{}
+
+/// The layout of a count of names gives each its own place, and up to 21 names a register.
+pub fn layouts_fit()
+    ensures fits { (names : ℕ) → Fits names (layout_of names) }
+    ensures few { (names : ℕ) → names ≤ 21 → (layout_of names).slots ≡ 0 }
+    ensures program { (fs : List FlatFunc) → SpilledFunctions (spilled_program fs) fs }
+{}

@@ -5,4 +5,7 @@
 
 mod laws;
 
-pub use laws::spilled_programs_refine;
+pub use laws::{
+    layouts_fit, spilled_functions_keep_sizes, spilled_programs_are_in_register_form,
+    spilled_programs_refine,
+};
