@@ -27,7 +27,8 @@ here : (a n : ℕ) → a + suc n ≤ 2 ^ 32 → place a ≡ a
 here a n h = omega arith
 
 -- what stands where bytes were put
-pub within : (bs : List ℕ) (m : Memory) (a j : ℕ) → a + length bs ≤ 2 ^ 32 → j < length bs → map.get (with_bytes m a bs) (a + j) ≡ Some (slice_index bs j)
+pub within : (bs : List ℕ) (m : Memory) (a j : ℕ) → a + length bs ≤ 2 ^ 32 → j < length bs →
+    map.get (with_bytes m a bs) (a + j) ≡ Some (slice_index bs j)
 within [] m a j fits less = absurd (none j less)
   where
     none : (j : ℕ) → j < 0 → ⊥
@@ -42,18 +43,23 @@ within (b ∷ bs) m a (suc j) fits less =
     ∙ within bs m (a + 1) j (omega arith) (omega arith)
 
 -- and elsewhere
-pub outside : (bs : List ℕ) (m : Memory) (a q : ℕ) → a + length bs ≤ 2 ^ 32 → ((q < a) ⊎ (a + length bs ≤ q)) → map.get (with_bytes m a bs) q ≡ map.get m q
+pub outside : (bs : List ℕ) (m : Memory) (a q : ℕ) → a + length bs ≤ 2 ^ 32 →
+    ((q < a) ⊎ (a + length bs ≤ q)) → map.get (with_bytes m a bs) q ≡ map.get m q
 outside [] m a q fits side = refl
 outside (b ∷ bs) m a q fits (inl low) =
     let apart : q ≢ place a = λ h. omega (arith, h) in
-    get-insert_other (with_bytes m (a + 1) bs) (place a) b q apart ∙ outside bs m (a + 1) q (omega arith) (inl (omega arith))
+    get-insert_other (with_bytes m (a + 1) bs) (place a) b q apart
+    ∙ outside bs m (a + 1) q (omega arith) (inl (omega arith))
 outside (b ∷ bs) m a q fits (inr high) =
     let apart : q ≢ place a = λ h. omega (arith, h) in
-    get-insert_other (with_bytes m (a + 1) bs) (place a) b q apart ∙ outside bs m (a + 1) q (omega arith) (inr (omega arith))
+    get-insert_other (with_bytes m (a + 1) bs) (place a) b q apart
+    ∙ outside bs m (a + 1) q (omega arith) (inr (omega arith))
 
 -- a buffer, once its bytes are in memory
-pub new_buffer : (m : Memory) (p n : ℕ) (bs : List ℕ) → length bs ≡ n → p + n ≤ 2 ^ 32 → IsBuffer (with_bytes m p bs) p n
-new_buffer m p n bs many fits = record { below = fits; there = λ j less. (slice_index bs j, within bs m p j (omega arith) (omega arith)) }
+pub new_buffer : (m : Memory) (p n : ℕ) (bs : List ℕ) → length bs ≡ n → p + n ≤ 2 ^ 32 →
+    IsBuffer (with_bytes m p bs) p n
+new_buffer m p n bs many fits =
+    record { below = fits; there = λ j less. (slice_index bs j, within bs m p j (omega arith) (omega arith)) }
 
 -- which side of a place an address is at
 pub sides : (q a n : ℕ) → ((q < a) ⊎ (a + n ≤ q)) ⊎ ((j : ℕ) × (j < n) × (q ≡ a + j))
@@ -81,17 +87,23 @@ byte_there m p n j q b less e = go (b.there j less)
     go (v, h) = (v, ap (map.get m) (same b.below) ∙ h)
 
 -- a word stored in a buffer
-pub stored : (m : Memory) (p n i w : ℕ) → IsBuffer m p n → i + 4 ≤ n → put_number m (p + i) 4 w ≡ Some (with_bytes m (p + i) (low_bytes 4 w))
+pub stored : (m : Memory) (p n i w : ℕ) → IsBuffer m p n → i + 4 ≤ n →
+    put_number m (p + i) 4 w ≡ Some (with_bytes m (p + i) (low_bytes 4 w))
 stored m p n i w b fits =
-    all (byte_there m p n i (p + i) b (omega arith) refl) (byte_there m p n (i + 1) (p + i + 1) b (omega arith) (omega arith))
-    (byte_there m p n (i + 2) (p + i + 1 + 1) b (omega arith) (omega arith)) (byte_there m p n (i + 3) (p + i + 1 + 1 + 1) b (omega arith) (omega arith))
+    all (byte_there m p n i (p + i) b (omega arith) refl)
+    (byte_there m p n (i + 1) (p + i + 1) b (omega arith) (omega arith))
+    (byte_there m p n (i + 2) (p + i + 1 + 1) b (omega arith) (omega arith))
+    (byte_there m p n (i + 3) (p + i + 1 + 1 + 1) b (omega arith) (omega arith))
   where
-    all : (v : ℕ) × (map.get m (place (p + i)) ≡ Some v) → (v : ℕ) × (map.get m (place (p + i + 1)) ≡ Some v) → (v : ℕ) × (map.get m (place (p + i + 1 + 1)) ≡ Some v) →
-        (v : ℕ) × (map.get m (place (p + i + 1 + 1 + 1)) ≡ Some v) → put_number m (p + i) 4 w ≡ Some (with_bytes m (p + i) (low_bytes 4 w))
+    all : (v : ℕ) × (map.get m (place (p + i)) ≡ Some v) → (v : ℕ) × (map.get m (place (p + i + 1)) ≡ Some v) →
+        (v : ℕ) × (map.get m (place (p + i + 1 + 1)) ≡ Some v) →
+        (v : ℕ) × (map.get m (place (p + i + 1 + 1 + 1)) ≡ Some v) →
+        put_number m (p + i) 4 w ≡ Some (with_bytes m (p + i) (low_bytes 4 w))
     all (v0, h0) (v1, h1) (v2, h2) (v3, h3) = rw (h0, h1, h2, h3) refl
 
 -- a byte of a buffer is loaded
-pub loads : (m : Memory) (p i b : ℕ) → p + 1520 ≤ 2 ^ 32 → i < 1520 → map.get m (p + i) ≡ Some b → get_number m (value_of_op Add p i) 1 ≡ Some b
+pub loads : (m : Memory) (p i b : ℕ) → p + 1520 ≤ 2 ^ 32 → i < 1520 → map.get m (p + i) ≡ Some b →
+    get_number m (value_of_op Add p i) 1 ≡ Some b
 loads m p i b fits less h =
     let k : place (value_of_op Add p i) ≡ p + i = omega arith in
     let e : map.get m (place (value_of_op Add p i)) ≡ Some b = ap (map.get m) k ∙ h in
@@ -100,10 +112,12 @@ loads m p i b fits less h =
     alone : (b : ℕ) → b + 256 * 0 ≡ b
     alone b = omega arith
 
-pub still_buffer : (m : Memory) (p n a : ℕ) (bs : List ℕ) → IsBuffer m p n → a + length bs ≤ 2 ^ 32 → IsBuffer (with_bytes m a bs) p n
+pub still_buffer : (m : Memory) (p n a : ℕ) (bs : List ℕ) → IsBuffer m p n → a + length bs ≤ 2 ^ 32 →
+    IsBuffer (with_bytes m a bs) p n
 still_buffer m p n a bs b fits = record { below = b.below; there = λ j less. by j less (sides (p + j) a (length bs)) }
   where
-    by : (j : ℕ) → j < n → (((p + j < a) ⊎ (a + length bs ≤ p + j)) ⊎ ((k : ℕ) × (k < length bs) × (p + j ≡ a + k))) → (v : ℕ) × (map.get (with_bytes m a bs) (p + j) ≡ Some v)
+    by : (j : ℕ) → j < n → (((p + j < a) ⊎ (a + length bs ≤ p + j)) ⊎ ((k : ℕ) × (k < length bs) × (p + j ≡ a + k))) →
+        (v : ℕ) × (map.get (with_bytes m a bs) (p + j) ≡ Some v)
     by j less (inl side) = go (b.there j less)
       where
         go : (v : ℕ) × (map.get m (p + j) ≡ Some v) → (v : ℕ) × (map.get (with_bytes m a bs) (p + j) ≡ Some v)

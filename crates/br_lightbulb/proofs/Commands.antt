@@ -36,14 +36,18 @@ val l m (op o a b) = both (value_of_op o) (val l m a) (val l m b)
 val l m (byte a) = option_and_then (λ a. get_number m a 1) (val l m a)
 
 pub value_is : (l : Locals) (m : Memory) (e : Exp) → value l m (tree e) ≡ val l m e
-value_is l m (lit k) = ap (value l m) (sym (expr.rolls-Literal k)) ∙ fold-roll-Expr (Option ℕ) (value_step l m) (Expr-F.Literal k)
-value_is l m (var x) = ap (value l m) (sym (expr.rolls-Var x)) ∙ fold-roll-Expr (Option ℕ) (value_step l m) (Expr-F.Var x)
+value_is l m (lit k) = ap (value l m) (sym (expr.rolls-Literal k))
+    ∙ fold-roll-Expr (Option ℕ) (value_step l m) (Expr-F.Literal k)
+value_is l m (var x) = ap (value l m) (sym (expr.rolls-Var x))
+    ∙ fold-roll-Expr (Option ℕ) (value_step l m) (Expr-F.Var x)
 value_is l m (op o a b) =
-    ap (value l m) (sym (expr.rolls-Op o (tree a) (tree b))) ∙ fold-roll-Expr (Option ℕ) (value_step l m) (Expr-F.Op o (tree a) (tree b))
+    ap (value l m) (sym (expr.rolls-Op o (tree a) (tree b)))
+    ∙ fold-roll-Expr (Option ℕ) (value_step l m) (Expr-F.Op o (tree a) (tree b))
     ∙ ap (λ u. both (value_of_op o) u (value l m (tree b))) (value_is l m a)
     ∙ ap (both (value_of_op o) (val l m a)) (value_is l m b)
 value_is l m (byte a) =
-    ap (value l m) (sym (expr.rolls-Load size.One (tree a))) ∙ fold-roll-Expr (Option ℕ) (value_step l m) (Expr-F.Load size.One (tree a))
+    ap (value l m) (sym (expr.rolls-Load size.One (tree a)))
+    ∙ fold-roll-Expr (Option ℕ) (value_step l m) (Expr-F.Load size.One (tree a))
     ∙ ap (option_and_then (λ a. get_number m a 1)) (value_is l m a)
 
 abbrev pub vals : Locals → Memory → List Exp → Option (List ℕ)

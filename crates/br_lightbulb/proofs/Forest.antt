@@ -27,8 +27,10 @@ tokens (list at items more) = opens at ∷ (tokens items ++ closes 0 ∷ tokens 
 
 pub tokens_are : (f : Forest) → forest_tokens (trees f) ≡ tokens f
 tokens_are nil = refl
-tokens_are (name at text more) = ap (λ ts. ts ++ forest_tokens (trees more)) (tokens-name at text) ∙ ap (λ ts. names at text ∷ ts) (tokens_are more)
-tokens_are (number at value more) = ap (λ ts. ts ++ forest_tokens (trees more)) (tokens-number at value) ∙ ap (λ ts. numbers at value ∷ ts) (tokens_are more)
+tokens_are (name at text more) = ap (λ ts. ts ++ forest_tokens (trees more)) (tokens-name at text)
+    ∙ ap (λ ts. names at text ∷ ts) (tokens_are more)
+tokens_are (number at value more) = ap (λ ts. ts ++ forest_tokens (trees more)) (tokens-number at value)
+    ∙ ap (λ ts. numbers at value ∷ ts) (tokens_are more)
 tokens_are (list at items more) =
     ap (λ ts. ts ++ forest_tokens (trees more)) (tokens-list at (trees items))
     ∙ ap (λ ts. opens at ∷ ts) (append_assoc (forest_tokens (trees items)) (closes 0 ∷ []) (forest_tokens (trees more)))
@@ -43,8 +45,10 @@ height (list at items more) = max (height items + 1) (height more)
 
 pub height_is : (f : Forest) → forest_height (trees f) ≡ height f
 height_is nil = refl
-height_is (name at text more) = ap (λ h. max h (forest_height (trees more))) (height-name at text) ∙ ap (max 0) (height_is more)
-height_is (number at value more) = ap (λ h. max h (forest_height (trees more))) (height-number at value) ∙ ap (max 0) (height_is more)
+height_is (name at text more) = ap (λ h. max h (forest_height (trees more))) (height-name at text)
+    ∙ ap (max 0) (height_is more)
+height_is (number at value more) = ap (λ h. max h (forest_height (trees more))) (height-number at value)
+    ∙ ap (max 0) (height_is more)
 height_is (list at items more) =
     ap (λ h. max h (forest_height (trees more))) (height-list at (trees items))
     ∙ ap (λ h. max (h + 1) (forest_height (trees more))) (height_is items)

@@ -31,7 +31,8 @@ where_byte index b commands = cond (op Eq (byte_of_frame index) (lit b)) command
 abbrev setting : Commands
 setting =
     read name.v 0x1001200C
-    (write 0x1001200C (op Or (op And (var name.v) (lit 0xFF7FFFFF)) (op Slu (op And (byte_of_frame 42) (lit 1)) (lit 23))) done)
+    (write 0x1001200C (op Or (op And (var name.v) (lit 0xFF7FFFFF))
+    (op Slu (op And (byte_of_frame 42) (lit 1)) (lit 23))) done)
 
 abbrev handling : Commands
 handling =
@@ -52,7 +53,11 @@ pub starts : (bytes : List ℕ) → Begins (handle_piece bytes) []
 starts bytes = by (is_accepted bytes) refl
   where
     by : (b : Bool) → is_accepted bytes ≡ b → Begins (handle_piece bytes) []
-    by true is = ([], Read OUT 0 ∷ Write OUT (with_light (light_of bytes) 0) ∷ [], (refl, inl (is, light_set (light_of bytes) 0)))
+    by true is = (
+      [],
+      Read OUT 0 ∷ Write OUT (with_light (light_of bytes) 0) ∷ [],
+      (refl, inl (is, light_set (light_of bytes) 0)),
+    )
     by false is = ([], [], (refl, inr (is, refl)))
 
 -- ---- the whole
@@ -67,7 +72,8 @@ record Given (bytes : List ℕ) (p : ℕ) (s : State) : Type 0 where
 abbrev Answers : List ℕ → State → State → Type 0
 Answers bytes s = Ended s (handle_piece bytes) []
 
-byte_is : (bytes : List ℕ) (p i : ℕ) (s : State) → Given bytes p s → i < length bytes → i < 1520 → val s.locals s.memory (byte_of_frame i) ≡ Some (slice_index bytes i)
+byte_is : (bytes : List ℕ) (p i : ℕ) (s : State) → Given bytes p s → i < length bytes → i < 1520 →
+    val s.locals s.memory (byte_of_frame i) ≡ Some (slice_index bytes i)
 byte_is bytes p i s g long less = rw g.p_is (loads s.memory p i (slice_index bytes i) g.fits less (g.holds i long less))
 
 -- nothing is done
@@ -75,20 +81,33 @@ refuses : (bytes : List ℕ) (s : State) → is_accepted bytes ≡ false → Ans
 refuses bytes s is = ([], refl, refl, ([], sym (append-nil s.trace), (refl, inr (is, refl))))
 
 -- the light is set
-accepts : (C : Callee) (bytes : List ℕ) (p : ℕ) (s : State) (Q : State → Type 0) → Given bytes p s → 42 < length bytes → is_accepted bytes ≡ true → ((t : State) → Answers bytes s t → Q t) →
+accepts : (C : Callee) (bytes : List ℕ) (p : ℕ) (s : State) (Q : State → Type 0) → Given bytes p s → 42 < length bytes →
+    is_accepted bytes ≡ true → ((t : State) → Answers bytes s t → Q t) →
     Leads C (Stopping s.trace (handle_piece bytes)) Q setting s
 accepts C bytes p s Q g long is next =
     reads refl ([], sym (append-nil s.trace), starts bytes)
     (λ v vs. writes {v = with_light (light_of bytes) v} refl
-    (rw (byte_is bytes p 42 s g long (omega arith)) (ap (λ k. Some (bit_or (bit_and v 0xFF7FFFFF) k)) (light_bits (slice_index bytes 42))))
-    (ends (next _ ([], refl, refl, (Read OUT v ∷ Write OUT (with_light (light_of bytes) v) ∷ [], append_assoc s.trace (Read OUT v ∷ []) (Write OUT (with_light (light_of bytes) v) ∷ []), (refl, inl (is, light_set (light_of bytes) v)))))))
+    (rw (byte_is bytes p 42 s g long (omega arith))
+    (ap (λ k. Some (bit_or (bit_and v 0xFF7FFFFF) k)) (light_bits (slice_index bytes 42))))
+    (ends (next _ (
+      [],
+      refl,
+      refl,
+      (
+        Read OUT v ∷ Write OUT (with_light (light_of bytes) v) ∷ [],
+        append_assoc s.trace
+            (Read OUT v ∷ []) (Write OUT (with_light (light_of bytes) v) ∷ []),
+        (refl, inl (is, light_set (light_of bytes) v)),
+      ),
+    ))))
 
 too_short : (bytes : List ℕ) → nat_lt (length bytes) 43 ≡ true → is_accepted bytes ≡ false
 too_short bytes short =
     let a : nat_le 43 (length bytes) ≡ false = grind (arith, nat_tests) in
     rw a refl
 
-too_long : (bytes : List ℕ) → nat_le 43 (length bytes) ≡ true → nat_lt 1520 (length bytes) ≡ true → is_accepted bytes ≡ false
+too_long : (bytes : List ℕ) → nat_le 43 (length bytes) ≡ true → nat_lt 1520 (length bytes) ≡ true →
+    is_accepted bytes ≡ false
 too_long bytes a long =
     let b : nat_le (length bytes) 1520 ≡ false = grind (arith, nat_tests) in
     rw (a, b) refl
@@ -102,7 +121,8 @@ short_enough n h = grind (arith, nat_tests)
 at_least : (n : ℕ) → nat_lt n 43 ≡ false → 43 ≤ n
 at_least n h = grind (arith, nat_tests)
 
-handles : (C : Callee) (bytes : List ℕ) (p : ℕ) (s : State) → Given bytes p s → Leads C (Stopping s.trace (handle_piece bytes)) (Answers bytes s) handling s
+handles : (C : Callee) (bytes : List ℕ) (p : ℕ) (s : State) → Given bytes p s →
+    Leads C (Stopping s.trace (handle_piece bytes)) (Answers bytes s) handling s
 handles C bytes p s g =
     tests (nat_lt (length bytes) 43) (rw g.n_is refl)
     (λ short. ends (ends (refuses bytes s (too_short bytes short))))
@@ -114,7 +134,9 @@ handles C bytes p s g =
     tests (slice_index bytes 12 == 8) (rw (byte_is bytes p 12 s g (omega arith) (omega arith)) refl)
     (λ e12. tests (slice_index bytes 13 == 0) (rw (byte_is bytes p 13 s g (omega arith) (omega arith)) refl)
     (λ e13. tests (slice_index bytes 23 == 17) (rw (byte_is bytes p 23 s g (omega arith) (omega arith)) refl)
-    (λ e23. accepts C bytes p s (Leads C S (Leads C S (Leads C S (Leads C S (Leads C S (Answers bytes s) done) done) done) done) done) g (omega arith) (rw (a, b, e12, e13, e23) refl) (λ t q. ends (ends (ends (ends (ends q))))))
+    (λ e23. accepts C bytes p s (Leads C S
+    (Leads C S (Leads C S (Leads C S (Leads C S (Answers bytes s) done) done) done) done) done) g (omega arith)
+    (rw (a, b, e12, e13, e23) refl) (λ t q. ends (ends (ends (ends (ends q))))))
     (λ n23. ends (ends (ends (ends (ends (ends (refuses bytes s (rw (a, b, e12, e13, n23) refl)))))))))
     (λ n13. ends (ends (ends (ends (ends (refuses bytes s (rw (a, b, e12, n13) refl))))))))
     (λ n12. ends (ends (ends (ends (refuses bytes s (rw (a, b, n12) refl))))))))
@@ -122,12 +144,16 @@ handles C bytes p s g =
     S : List Event → Type 0
     S = Stopping s.trace (handle_piece bytes)
 
-pub shows-handle : (C : Callee) (bytes : List ℕ) (p : ℕ) (s : State) → p + 1520 ≤ 2 ^ 32 → Holds s.memory p bytes → ShowsPiece s (handle_piece bytes) (run_function C handle (p ∷ length bytes ∷ []) s)
+pub shows-handle : (C : Callee) (bytes : List ℕ) (p : ℕ) (s : State) → p + 1520 ≤ 2 ^ 32 → Holds s.memory p bytes →
+    ShowsPiece s (handle_piece bytes) (run_function C handle (p ∷ length bytes ∷ []) s)
 shows-handle C bytes p s fits holds =
     let s0 : State = record s { locals = with_locals (name.p ∷ name.n ∷ []) (p ∷ length bytes ∷ []) no_locals } in
-    shows-body s (handle_piece bytes) [] (run_all C handle.body s0) (handles C bytes p s0 (record { fits = fits; holds = holds; p_is = refl; n_is = refl })).does
+    shows-body s (handle_piece bytes) [] (run_all C handle.body s0)
+    (handles C bytes p s0 (record { fits = fits; holds = holds; p_is = refl; n_is = refl })).does
 
-pub handle-pieces : (fs : List Func) → HasFirmware fs → (depth : ℕ) (bytes : List ℕ) (p : ℕ) (s : State) → p + 1520 ≤ 2 ^ 32 → Holds s.memory p bytes →
+pub handle-pieces : (fs : List Func) → HasFirmware fs →
+    (depth : ℕ) (bytes : List ℕ) (p : ℕ) (s : State) → p + 1520 ≤ 2 ^ 32 → Holds s.memory p bytes →
     ShowsPiece s (handle_piece bytes) (function_of fs depth name.handle (p ∷ length bytes ∷ []) s)
 handle-pieces fs has zero bytes p s fits holds = (tt, ([], sym (append-nil s.trace), starts bytes))
-handle-pieces fs has (suc depth) bytes p s fits holds = rw has.handle (shows-handle (function_of fs depth) bytes p s fits holds)
+handle-pieces fs has (suc depth) bytes p s fits holds =
+    rw has.handle (shows-handle (function_of fs depth) bytes p s fits holds)

@@ -121,12 +121,16 @@ pub not_less : (k : ℕ) → k ≤ 4 → (value_of_op Ltu k 4 == 0) ≡ true →
 not_less k few h = grind (arith, nat_tests)
 
 -- a turn after which the bytes so far were received
-got_turn : (C : Callee) (a : ℕ) (U es : List Event) (m : Memory) (S : List Event → Type 0) (t : State) → Exchanges C → MayStop (read_bytes a) U S → (g : Got a t.locals es) → length g.ds < 4 →
+got_turn : (C : Callee) (a : ℕ) (U es : List Event) (m : Memory) (S : List Event → Type 0) (t : State) → Exchanges C →
+    MayStop (read_bytes a) U S → (g : Got a t.locals es) → length g.ds < 4 →
     Leads C S (Loops a U m) (unless_bad each next_index) (upon t.locals m (U ++ es) t)
 got_turn C a U es m S t known may g less =
     second_of_two {v = 0} g.bad refl
-    (exchanges_byte (read_bytes a) (drop (suc (length g.ds)) four_zeros) (g.r0 ∷ g.r1 ∷ g.r2 ∷ g.ds) 0 U es known may refl
-    (subst (λ (q : List ℕ). Sent (read_bytes a) q (g.r0 ∷ g.r1 ∷ g.r2 ∷ g.ds) es) ((joins g.n 0 g.ds less g.number g.below (omega arith)).next ∙ ap (λ k. 0 ∷ drop k four_zeros) (joins g.n 0 g.ds less g.number g.below (omega arith)).more) g.sent)
+    (exchanges_byte (read_bytes a) (drop (suc (length g.ds)) four_zeros) (g.r0 ∷ g.r1 ∷ g.r2 ∷ g.ds)
+    0 U es known may refl
+    (subst (λ (q : List ℕ). Sent (read_bytes a) q (g.r0 ∷ g.r1 ∷ g.r2 ∷ g.ds) es)
+    ((joins g.n 0 g.ds less g.number g.below (omega arith)).next
+    ∙ ap (λ k. 0 ∷ drop k four_zeros) (joins g.n 0 g.ds less g.number g.below (omega arith)).more) g.sent)
     (λ r fs o byte sent. let j : Joins g.n r g.ds = joins g.n r g.ds less g.number g.below byte in
     sets {v = g.n + 256 ^ length g.ds * r} (rw (g.v, g.i) (ap Some j.sum))
     (ends (sets {v = length (g.ds ++ r ∷ [])} (rw g.i (ap Some (one_more (length g.ds) g.few ∙ sym j.more)))
@@ -146,44 +150,87 @@ got_turn C a U es m S t known may g less =
         v = refl;
         number = j.number;
         below = j.below;
-        sent = subst (λ k. Sent (read_bytes a) (drop k four_zeros) (g.r0 ∷ g.r1 ∷ g.r2 ∷ (g.ds ++ r ∷ [])) fs) (sym j.more) sent;
+        sent = subst (λ k. Sent (read_bytes a) (drop k four_zeros) (g.r0 ∷ g.r1 ∷ g.r2 ∷ (g.ds ++ r ∷ [])) fs)
+            (sym j.more) sent;
       }),
     )))))
     (λ fs o f. sets {v = value_of_op Or g.n (value_of_op Slu 0 (value_of_op Slu (length g.ds) 3))} (rw (g.v, g.i) refl)
     (ends (sets {v = suc (length g.ds)} (rw g.i (ap Some (one_more (length g.ds) g.few)))
-    (ends (fs, refl, refl, inr (record { k = suc (length g.ds); n = value_of_op Or g.n (value_of_op Slu 0 (value_of_op Slu (length g.ds) 3)); few = less; bad = refl; i = refl; v = refl; failed = f })))))))
+    (ends (
+      fs,
+      refl,
+      refl,
+      inr (record {
+        k = suc (length g.ds);
+        n =
+            value_of_op Or g.n (value_of_op Slu 0 (value_of_op Slu (length g.ds) 3));
+        few = less;
+        bad = refl;
+        i = refl;
+        v =
+            refl;
+        failed = f;
+      }),
+    ))))))
 
-lost_turn : (C : Callee) (a : ℕ) (U es : List Event) (m : Memory) (S : List Event → Type 0) (t : State) → (g : Lost a t.locals es) → g.k < 4 →
+lost_turn : (C : Callee) (a : ℕ) (U es : List Event) (m : Memory) (S : List Event → Type 0) (t : State) →
+    (g : Lost a t.locals es) → g.k < 4 →
     Leads C S (Loops a U m) (unless_bad each next_index) (upon t.locals m (U ++ es) t)
 lost_turn C a U es m S t g less =
     first_of_two {v = 1} g.bad refl
     (ends (sets {v = suc g.k} (rw g.i (ap Some (one_more g.k g.few)))
-    (ends (es, refl, refl, inr (record { k = suc g.k; n = g.n; few = less; bad = g.bad; i = refl; v = g.v; failed = g.failed })))))
+    (ends (
+      es,
+      refl,
+      refl,
+      inr (record {
+        k = suc g.k;
+        n = g.n;
+        few = less;
+        bad = g.bad;
+        i = refl;
+        v = g.v;
+        failed =
+            g.failed;
+      }),
+    ))))
 
 -- a run may stop at each turn
-stops_at_turn : (a : ℕ) (U es : List Event) (S : List Event → Type 0) (l : Locals) → MayStop (read_bytes a) U S → (Got a l es ⊎ Lost a l es) → S (U ++ es)
+stops_at_turn : (a : ℕ) (U es : List Event) (S : List Event → Type 0) (l : Locals) → MayStop (read_bytes a) U S →
+    (Got a l es ⊎ Lost a l es) → S (U ++ es)
 stops_at_turn a U es S l may (inl g) = go (some_exchanges (left_after g.ds))
   where
     go : (rs : List ℕ) × (fs : List Event) × exchanges (left_after g.ds) rs fs → S (U ++ es)
     go (rs, fs, x) = may es fs (inl (g.r0 ∷ g.r1 ∷ g.r2 ∷ (g.ds ++ rs), g.sent.on rs fs x))
-stops_at_turn a U es S l may (inr g) = may es [] (inr (subst (failed_exchanges (read_bytes a)) (sym (append-nil es)) g.failed))
+stops_at_turn a U es S l may (inr g) =
+    may es [] (inr (subst (failed_exchanges (read_bytes a)) (sym (append-nil es)) g.failed))
 
 -- ---- the whole
 
-pub framed : (T : List Event) (e : Event) (es : List Event) (z : Event) → ((T ++ e ∷ []) ++ es) ++ z ∷ [] ≡ T ++ (e ∷ (es ++ z ∷ []))
+pub framed : (T : List Event) (e : Event) (es : List Event) (z : Event) →
+    ((T ++ e ∷ []) ++ es) ++ z ∷ [] ≡ T ++ (e ∷ (es ++ z ∷ []))
 framed T e es z = append_assoc (T ++ e ∷ []) es (z ∷ []) ∙ append_assoc T (e ∷ []) (es ++ z ∷ [])
 
-whole : (a v : ℕ) (rs : List ℕ) (es : List Event) → v ≡ number_of (drop 3 rs) → exchanges (read_bytes a) rs es → read_word a v (Write CS 2 ∷ (es ++ Write CS 0 ∷ []))
-whole a v rs es is x = (Write CS 2 ∷ [], es ++ Write CS 0 ∷ [], refl, refl, (es, Write CS 0 ∷ [], refl, (rs, (is, x)), refl))
+whole : (a v : ℕ) (rs : List ℕ) (es : List Event) → v ≡ number_of (drop 3 rs) → exchanges (read_bytes a) rs es →
+    read_word a v (Write CS 2 ∷ (es ++ Write CS 0 ∷ []))
+whole a v rs es is x = (
+  Write CS 2 ∷ [],
+  es ++ Write CS 0 ∷ [],
+  refl,
+  refl,
+  (es, Write CS 0 ∷ [], refl, (rs, (is, x)), refl),
+)
 
-whole_failed : (a : ℕ) (es : List Event) → failed_exchanges (read_bytes a) es → failed_read a (Write CS 2 ∷ (es ++ Write CS 0 ∷ []))
+whole_failed : (a : ℕ) (es : List Event) → failed_exchanges (read_bytes a) es →
+    failed_read a (Write CS 2 ∷ (es ++ Write CS 0 ∷ []))
 whole_failed a es x = (Write CS 2 ∷ [], es ++ Write CS 0 ∷ [], refl, refl, (es, Write CS 0 ∷ [], refl, x, refl))
 
 abbrev Answers : ℕ → State → State → Type 0
 Answers a s = Ended s (read_piece a) (name.v ∷ name.bad ∷ [])
 
 -- the chip is released once four bytes of the word were received
-released_got : (C : Callee) (a : ℕ) (s t : State) (es : List Event) (S : List Event → Type 0) → (g : Got a t.locals es) → length g.ds ≡ 4 →
+released_got : (C : Callee) (a : ℕ) (s t : State) (es : List Event) (S : List Event → Type 0) →
+    (g : Got a t.locals es) → length g.ds ≡ 4 →
     Leads C S (Answers a s) closing (upon t.locals s.memory ((s.trace ++ Write CS 2 ∷ []) ++ es) t)
 released_got C a s t es S g all =
     let none : left_after g.ds ≡ [] = ap (λ k. drop k four_zeros) all in
@@ -198,7 +245,8 @@ released_got C a s t es S g all =
           g.n,
           refl,
           whole a g.n (g.r0 ∷ g.r1 ∷ g.r2 ∷ g.ds) es g.number
-              (all_sent (read_bytes a) (g.r0 ∷ g.r1 ∷ g.r2 ∷ g.ds) es (subst (λ (q : List ℕ). Sent (read_bytes a) q (g.r0 ∷ g.r1 ∷ g.r2 ∷ g.ds) es) none g.sent)),
+              (all_sent (read_bytes a) (g.r0 ∷ g.r1 ∷ g.r2 ∷ g.ds) es
+              (subst (λ (q : List ℕ). Sent (read_bytes a) q (g.r0 ∷ g.r1 ∷ g.r2 ∷ g.ds) es) none g.sent)),
         ),
       ),
     ))
@@ -211,27 +259,39 @@ released_lost C a s t es S g =
       g.n ∷ 1 ∷ [],
       words_of_two name.v name.bad t.locals g.n 1 g.v g.bad,
       refl,
-      (Write CS 2 ∷ (es ++ Write CS 0 ∷ []), framed s.trace (Write CS 2) es (Write CS 0), inr (g.n, refl, whole_failed a es g.failed)),
+      (
+        Write CS 2 ∷ (es ++ Write CS 0 ∷ []),
+        framed s.trace (Write CS 2) es (Write CS 0),
+        inr
+            (g.n, refl, whole_failed a es g.failed),
+      ),
     ))
 
 -- a turn of the loop
-turn : (C : Callee) (a : ℕ) (s : State) (S : List Event → Type 0) → Exchanges C → MayStop (read_bytes a) (s.trace ++ Write CS 2 ∷ []) S →
+turn : (C : Callee) (a : ℕ) (s : State) (S : List Event → Type 0) → Exchanges C →
+    MayStop (read_bytes a) (s.trace ++ Write CS 2 ∷ []) S →
     (t : State) → Loops a (s.trace ++ Write CS 2 ∷ []) s.memory t →
-    Turns C S (Loops a (s.trace ++ Write CS 2 ∷ []) s.memory) (Leads C S (Answers a s) closing) (op Ltu (var name.i) (lit 4)) (unless_bad each next_index) t
+    Turns C S (Loops a (s.trace ++ Write CS 2 ∷ []) s.memory) (Leads C S (Answers a s) closing)
+    (op Ltu (var name.i) (lit 4)) (unless_bad each next_index) t
 turn C a s S known may t (es, e, m, inl g) = record {
   word = value_of_op Ltu (length g.ds) 4;
   has = rw g.i refl;
   stops = subst S (sym e) (stops_at_turn a (s.trace ++ Write CS 2 ∷ []) es S t.locals may (inl g));
-  over = λ is. at_state C S (Answers a s) closing t s.memory ((s.trace ++ Write CS 2 ∷ []) ++ es) m e (released_got C a s t es S g (not_less (length g.ds) g.few is));
-  on = λ is k. at_state C S (Loops a (s.trace ++ Write CS 2 ∷ []) s.memory) (unless_bad each next_index) (record t { fuel = k }) s.memory ((s.trace ++ Write CS 2 ∷ []) ++ es) m e
-      (got_turn C a (s.trace ++ Write CS 2 ∷ []) es s.memory S (record t { fuel = k }) known may g (less (length g.ds) is));
+  over = λ is. at_state C S (Answers a s) closing t s.memory ((s.trace ++ Write CS 2 ∷ []) ++ es) m e
+      (released_got C a s t es S g (not_less (length g.ds) g.few is));
+  on = λ is k. at_state C S (Loops a (s.trace ++ Write CS 2 ∷ []) s.memory) (unless_bad each next_index)
+      (record t { fuel = k }) s.memory ((s.trace ++ Write CS 2 ∷ []) ++ es) m e
+      (got_turn C a (s.trace ++ Write CS 2 ∷ []) es s.memory S (record t { fuel = k }) known may g
+      (less (length g.ds) is));
 }
 turn C a s S known may t (es, e, m, inr g) = record {
   word = value_of_op Ltu g.k 4;
   has = rw g.i refl;
   stops = subst S (sym e) (stops_at_turn a (s.trace ++ Write CS 2 ∷ []) es S t.locals may (inr g));
-  over = λ is. at_state C S (Answers a s) closing t s.memory ((s.trace ++ Write CS 2 ∷ []) ++ es) m e (released_lost C a s t es S g);
-  on = λ is k. at_state C S (Loops a (s.trace ++ Write CS 2 ∷ []) s.memory) (unless_bad each next_index) (record t { fuel = k }) s.memory ((s.trace ++ Write CS 2 ∷ []) ++ es) m e
+  over = λ is. at_state C S (Answers a s) closing t s.memory ((s.trace ++ Write CS 2 ∷ []) ++ es) m e
+      (released_lost C a s t es S g);
+  on = λ is k. at_state C S (Loops a (s.trace ++ Write CS 2 ∷ []) s.memory) (unless_bad each next_index)
+      (record t { fuel = k }) s.memory ((s.trace ++ Write CS 2 ∷ []) ++ es) m e
       (lost_turn C a (s.trace ++ Write CS 2 ∷ []) es s.memory S (record t { fuel = k }) g (less g.k is));
 }
 
@@ -240,21 +300,45 @@ stops : (a : ℕ) (s : State) → MayStop (read_bytes a) (s.trace ++ Write CS 2 
 stops a s es more (inl (rs, x)) = (
   Write CS 2 ∷ es,
   append_assoc s.trace (Write CS 2 ∷ []) es,
-  (number_of (drop 3 rs) ∷ 0 ∷ [], more ++ Write CS 0 ∷ [], inl (number_of (drop 3 rs), refl, subst (λ q. read_word a (number_of (drop 3 rs)) (Write CS 2 ∷ q)) (append_assoc es more (Write CS 0 ∷ [])) (whole a (number_of (drop 3 rs)) rs (es ++ more) refl x))),
+  (
+    number_of (drop 3 rs) ∷ 0 ∷ [],
+    more ++ Write CS 0 ∷ [],
+    inl (
+      number_of (drop 3 rs),
+      refl,
+      subst (λ q. read_word a (number_of (drop 3 rs)) (Write CS 2 ∷ q))
+          (append_assoc es more (Write CS 0 ∷ [])) (whole a (number_of (drop 3 rs)) rs (es ++ more) refl x),
+    ),
+  ),
 )
 stops a s es more (inr x) = (
   Write CS 2 ∷ es,
   append_assoc s.trace (Write CS 2 ∷ []) es,
-  (0 ∷ 1 ∷ [], more ++ Write CS 0 ∷ [], inr (0, refl, subst (λ q. failed_read a (Write CS 2 ∷ q)) (append_assoc es more (Write CS 0 ∷ [])) (whole_failed a (es ++ more) x))),
+  (
+    0 ∷ 1 ∷ [],
+    more ++ Write CS 0 ∷ [],
+    inr (
+      0,
+      refl,
+      subst (λ q. failed_read a (Write CS 2 ∷ q)) (append_assoc es more (Write CS 0 ∷ []))
+          (whole_failed a (es ++ more) x),
+    ),
+  ),
 )
 
 pub reads_start : (a : ℕ) → Begins (read_piece a) []
 reads_start a = go (some_exchanges (read_bytes a))
   where
     go : (rs : List ℕ) × (es : List Event) × exchanges (read_bytes a) rs es → Begins (read_piece a) []
-    go (rs, es, x) = (number_of (drop 3 rs) ∷ 0 ∷ [], Write CS 2 ∷ (es ++ Write CS 0 ∷ []), inl (number_of (drop 3 rs), refl, whole a (number_of (drop 3 rs)) rs es refl x))
+    go (rs, es, x) = (
+      number_of (drop 3 rs) ∷ 0 ∷ [],
+      Write CS 2 ∷ (es ++ Write CS 0 ∷ []),
+      inl
+          (number_of (drop 3 rs), refl, whole a (number_of (drop 3 rs)) rs es refl x),
+    )
 
-pub shows-read : (C : Callee) (a : ℕ) (s : State) → Exchanges C → ShowsPiece s (read_piece a) (run_function C lan_read (a ∷ []) s)
+pub shows-read : (C : Callee) (a : ℕ) (s : State) → Exchanges C →
+    ShowsPiece s (read_piece a) (run_function C lan_read (a ∷ []) s)
 shows-read C a s known =
     let S : List Event → Type 0 = Stopping s.trace (read_piece a) in
     let U : List Event = s.trace ++ Write CS 2 ∷ [] in
@@ -265,13 +349,50 @@ shows-read C a s known =
     shows-body s (read_piece a) (name.v ∷ name.bad ∷ []) (run_all C lan_read.body s0) leads.does
   where
     by : (C : Callee) (a : ℕ) (s : State) → Exchanges C →
-        Leads C (Stopping s.trace (read_piece a)) (Answers a s) (opening 3 (repeat (op Ltu (var name.i) (lit 4)) (unless_bad each next_index) closing))
-        (upon (with_local name.v 0 (with_locals (name.a ∷ []) (a ∷ []) no_locals)) s.memory (s.trace ++ Write CS 2 ∷ []) s)
+        Leads C (Stopping s.trace (read_piece a)) (Answers a s)
+        (opening 3 (repeat (op Ltu (var name.i) (lit 4)) (unless_bad each next_index) closing))
+        (upon (with_local name.v 0 (with_locals (name.a ∷ []) (a ∷ []) no_locals)) s.memory (s.trace ++ Write CS 2 ∷ [])
+        s)
     by C a s known =
-        at_state C (Stopping s.trace (read_piece a)) (Answers a s) (opening 3 (repeat (op Ltu (var name.i) (lit 4)) (unless_bad each next_index) closing))
-        (upon (with_local name.v 0 (with_locals (name.a ∷ []) (a ∷ []) no_locals)) s.memory (s.trace ++ Write CS 2 ∷ []) s) s.memory ((s.trace ++ Write CS 2 ∷ []) ++ []) refl (sym (append-nil (s.trace ++ Write CS 2 ∷ [])))
+        at_state C (Stopping s.trace (read_piece a)) (Answers a s)
+        (opening 3 (repeat (op Ltu (var name.i) (lit 4)) (unless_bad each next_index) closing))
+        (upon (with_local name.v 0 (with_locals (name.a ∷ []) (a ∷ []) no_locals)) s.memory (s.trace ++ Write CS 2 ∷ [])
+        s) s.memory ((s.trace ++ Write CS 2 ∷ []) ++ []) refl (sym (append-nil (s.trace ++ Write CS 2 ∷ [])))
         (opens a 0 four_zeros (s.trace ++ Write CS 2 ∷ []) known (stops a s) refl refl
-        (λ l r0 r1 r2 es o v sent. repeats (Loops a (s.trace ++ Write CS 2 ∷ []) s.memory) (turn C a s (Stopping s.trace (read_piece a)) known (stops a s))
-        (es, refl, refl, inl (record { r0 = r0; r1 = r1; r2 = r2; ds = []; n = 0; few = omega arith; bad = v.bad_is; i = v.i; v = v.v_is; number = refl; below = omega arith; sent = sent })))
-        (λ l es o v f. repeats (Loops a (s.trace ++ Write CS 2 ∷ []) s.memory) (turn C a s (Stopping s.trace (read_piece a)) known (stops a s))
-        (es, refl, refl, inr (record { k = 0; n = 0; few = omega arith; bad = v.bad_is; i = v.i; v = v.v_is; failed = f }))))
+        (λ l r0 r1 r2 es o v sent. repeats (Loops a (s.trace ++ Write CS 2 ∷ []) s.memory)
+        (turn C a s (Stopping s.trace (read_piece a)) known (stops a s)) (
+          es,
+          refl,
+          refl,
+          inl (record {
+            r0 = r0;
+            r1 = r1;
+            r2 = r2;
+            ds = [];
+            n = 0;
+            few = omega arith;
+            bad = v.bad_is;
+            i =
+                v.i;
+            v = v.v_is;
+            number = refl;
+            below = omega arith;
+            sent = sent;
+          }),
+        ))
+        (λ l es o v f. repeats (Loops a (s.trace ++ Write CS 2 ∷ []) s.memory)
+        (turn C a s (Stopping s.trace (read_piece a)) known (stops a s)) (
+          es,
+          refl,
+          refl,
+          inr (record {
+            k = 0;
+            n = 0;
+            few = omega arith;
+            bad = v.bad_is;
+            i = v.i;
+            v = v.v_is;
+            failed =
+                f;
+          }),
+        )))

@@ -38,7 +38,8 @@ begun : (es : List Event) → good.boot es → Polled es
 begun es b = (es, [], sym (append-nil es), b, (0, times_zero good.poll))
 
 polled : (es fs : List Event) → Polled es → good.poll fs → Polled (es ++ fs)
-polled es fs (f, g, e, b, (k, t)) p = (f, g ++ fs, ap (λ q. q ++ fs) e ∙ append_assoc f g fs, b, (suc k, times_more k good.poll g fs t p))
+polled es fs (f, g, e, b, (k, t)) p =
+    (f, g ++ fs, ap (λ q. q ++ fs) e ∙ append_assoc f g fs, b, (suc k, times_more k good.poll g fs t p))
 
 whole : (es : List Event) → Good es → BeginsGood es
 whole es g = ([], subst Good (sym (append-nil es)) g)
@@ -48,7 +49,8 @@ in_boot fs (ws, more, inl (is, b)) = (more, inr (begun (fs ++ more) b))
 in_boot fs (ws, more, inr (is, f)) = (more, inl f)
 
 in_poll : (es fs : List Event) → Polled es → Begins poll_piece fs → BeginsGood (es ++ fs)
-in_poll es fs b (ws, more, p) = (more, inr (subst Polled (sym (append_assoc es fs more)) (polled es (fs ++ more) b p.1)))
+in_poll es fs b (ws, more, p) =
+    (more, inr (subst Polled (sym (append_assoc es fs more)) (polled es (fs ++ more) b p.1)))
 
 -- ---- the loop
 
@@ -88,7 +90,9 @@ poll_turn C t known g =
     kept : (ws : List ℕ) → (b : ℕ) × (ws ≡ b ∷ []) → with_locals (name.x ∷ []) ws t.locals name.bad ≡ Some 0
     kept ws (b, is) = subst (λ (q : List ℕ). with_locals (name.x ∷ []) q t.locals name.bad ≡ Some 0) (sym is) g.bad
 
-turn : (C : Callee) → Known C → (t : State) → Loops t → Turns C BeginsGood Loops (Leads C BeginsGood Over done) (op Eq (var name.bad) (lit 0)) each t
+turn : (C : Callee) → Known C →
+    (t : State) → Loops t → Turns C BeginsGood Loops (Leads C BeginsGood Over done) (op Eq (var name.bad) (lit 0))
+    each t
 turn C known t (inl g) = record {
   word = 1;
   has = rw g.bad refl;
@@ -107,14 +111,25 @@ turn C known t (inr g) = record {
 -- ---- the whole
 
 runs : (C : Callee) (m : Memory) (answers : List ℕ) (choices : List Choice) (fuel : ℕ) → Known C →
-    Leads C BeginsGood Over whole_run (record { locals = no_locals; memory = m; trace = []; answers = answers; choices = choices; fuel = fuel })
+    Leads C BeginsGood Over whole_run
+    (record { locals = no_locals; memory = m; trace = []; answers = answers; choices = choices; fuel = fuel })
 runs C m answers choices fuel known =
     shown {vs = []} {piece = boot_piece} refl known.boots boots_start in_boot
     (λ ws fs o p. repeats Loops (turn C known) (by ws fs o p))
   where
-    by : (ws : List ℕ) (fs : List Event) (o : State) → boot_piece ws fs → Loops (upon (with_locals (name.bad ∷ []) ws no_locals) m fs o)
-    by ws fs o (inl (is, b)) = inl (record { bad = subst (λ (q : List ℕ). with_locals (name.bad ∷ []) q no_locals name.bad ≡ Some 0) (sym is) refl; polled = begun fs b })
-    by ws fs o (inr (is, f)) = inr (record { bad = subst (λ (q : List ℕ). with_locals (name.bad ∷ []) q no_locals name.bad ≡ Some 1) (sym is) refl; failed = f })
+    by : (ws : List ℕ) (fs : List Event) (o : State) → boot_piece ws fs →
+        Loops (upon (with_locals (name.bad ∷ []) ws no_locals) m fs o)
+    by ws fs o (inl (is, b)) = inl (record {
+      bad =
+          subst (λ (q : List ℕ). with_locals (name.bad ∷ []) q no_locals name.bad ≡ Some 0) (sym is) refl;
+      polled =
+          begun fs b;
+    })
+    by ws fs o (inr (is, f)) = inr (record {
+      bad =
+          subst (λ (q : List ℕ). with_locals (name.bad ∷ []) q no_locals name.bad ≡ Some 1) (sym is) refl;
+      failed = f;
+    })
 
 defined : (e : End) → IsDefined e → outcome_of e ≢ outcome.Undefined
 defined (Waiting a) d = λ h. cc
@@ -126,10 +141,14 @@ shows : (r : Run) → Does Over (λ t. BeginsGood t.trace) r → StaysGood (seen
 shows (Goes t) (ws, is, g) = rw is (λ h. cc, g)
 shows (Ends e t) (d, g) = (defined e d, g)
 
-pub stays_good : (fs : List Func) → HasFirmware fs → (m : Memory) (answers : List ℕ) (choices : List Choice) (fuel : ℕ) → StaysGood (call_of fs main [] m answers choices fuel)
+pub stays_good : (fs : List Func) → HasFirmware fs →
+    (m : Memory) (answers : List ℕ) (choices : List Choice) (fuel : ℕ) →
+    StaysGood (call_of fs main [] m answers choices fuel)
 stays_good fs has m answers choices fuel =
-    shows (run_all (function_of fs fuel) main.body (record { locals = no_locals; memory = m; trace = []; answers = answers; choices = choices; fuel = fuel }))
-    (runs (function_of fs fuel) m answers choices fuel (record { boots = boot-pieces fs has fuel; polls = poll-pieces fs has fuel })).does
+    shows (run_all (function_of fs fuel) main.body
+    (record { locals = no_locals; memory = m; trace = []; answers = answers; choices = choices; fuel = fuel }))
+    (runs (function_of fs fuel) m answers choices fuel
+    (record { boots = boot-pieces fs has fuel; polls = poll-pieces fs has fuel })).does
 
 -- the functions of the firmware
 pub has_firmware : HasFirmware firmware
@@ -146,8 +165,12 @@ pub has_main : (fs : List Func) → IsEqualUpToOffsets fs firmware → (f : Func
 has_main fs equal = has_too fs firmware name.main main equal refl
 
 -- and of each program that is equal to it up to offsets
-pub firmware_stays : (fs : List Func) (f : Func) → IsEqualUpToOffsets fs firmware → function_named fs name.main ≡ Some f →
-    (m : Memory) (answers : List ℕ) (choices : List Choice) (fuel : ℕ) → StaysGood (call_of fs f [] m answers choices fuel)
+pub firmware_stays : (fs : List Func) (f : Func) → IsEqualUpToOffsets fs firmware →
+    function_named fs name.main ≡ Some f →
+    (m : Memory) (answers : List ℕ) (choices : List Choice) (fuel : ℕ) →
+    StaysGood (call_of fs f [] m answers choices fuel)
 firmware_stays fs f equal is m answers choices fuel =
-    subst (λ (r : Returned). StaysGood (seen r)) (sym (equal_runs fs firmware name.main f main equal is refl fuel [] (record { locals = no_locals; memory = m; trace = []; answers = answers; choices = choices; fuel = fuel })))
+    subst (λ (r : Returned). StaysGood (seen r))
+    (sym (equal_runs fs firmware name.main f main equal is refl fuel []
+    (record { locals = no_locals; memory = m; trace = []; answers = answers; choices = choices; fuel = fuel })))
     (stays_good firmware has_firmware m answers choices fuel)

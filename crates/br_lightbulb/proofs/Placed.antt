@@ -87,8 +87,10 @@ pub exp_reads : (a : Exp) → expression (exp_tree a) ≡ Ok (exp a)
 exp_reads (number at k) = expression-number at k
 exp_reads (var at x) = expression-name at x
 exp_reads (op at w p a b) =
-    expression-list at (tree.Name w (word p) ∷ exp_tree a ∷ exp_tree b ∷ []) ∙ rw (tree.outs-Name w (word p), word_is p, exp_reads a, exp_reads b) refl
-exp_reads (load1 at w a) = expression-list at (tree.Name w (codes "load1") ∷ exp_tree a ∷ []) ∙ rw (tree.outs-Name w (codes "load1"), exp_reads a) refl
+    expression-list at (tree.Name w (word p) ∷ exp_tree a ∷ exp_tree b ∷ [])
+    ∙ rw (tree.outs-Name w (word p), word_is p, exp_reads a, exp_reads b) refl
+exp_reads (load1 at w a) = expression-list at (tree.Name w (codes "load1") ∷ exp_tree a ∷ [])
+    ∙ rw (tree.outs-Name w (codes "load1"), exp_reads a) refl
 
 -- ---- lists of names, and of arguments
 
@@ -110,15 +112,24 @@ names_of (two at i x j y apart) = x ∷ y ∷ []
 word_is_name : (i : ℕ) (x : Text) → word_of (tree.Name i x) ≡ x
 word_is_name i x = rw (tree.outs-Name i x) refl
 
-second_name : (i j : ℕ) (x y : Text) → bytes_eq x y ≡ false → name_among {X = Tree} (tree.Name i x ∷ []) (name-F j y) ≡ Ok y
+second_name : (i j : ℕ) (x y : Text) → bytes_eq x y ≡ false →
+    name_among {X = Tree} (tree.Name i x ∷ []) (name-F j y) ≡ Ok y
 second_name i j x y apart =
-    let new : list_any (λ (t : Tree). bytes_eq (word_of t) y) (tree.Name i x ∷ []) ≡ false = ap (λ (q : Text). bytes_eq q y || false) (word_is_name i x) ∙ rw apart refl in
+    let new : list_any (λ (t : Tree). bytes_eq (word_of t) y) (tree.Name i x ∷ []) ≡ false =
+    ap (λ (q : Text). bytes_eq q y || false) (word_is_name i x) ∙ rw apart refl in
     grind (arith, common_steps, new)
 
 names_read : (ns : Names) → names (names_tree ns) ≡ Ok (names_of ns)
 names_read (none at) = rw (tree.outs-List at []) refl
 names_read (one at i x) = rw (tree.outs-List at (tree.Name i x ∷ []), tree.outs-Name i x) refl
-names_read (two at i x j y apart) = rw (tree.outs-List at (tree.Name i x ∷ tree.Name j y ∷ []), tree.outs-Name i x, tree.outs-Name j y, second_name i j x y apart) refl
+names_read (two at i x j y apart) =
+    rw (
+      tree.outs-List at (tree.Name i x ∷ tree.Name j y ∷ []),
+      tree.outs-Name i x,
+      tree.outs-Name j y,
+      second_name i j
+          x y apart,
+    ) refl
 
 pub data Args : Type 0 where
   no_args : Args
@@ -154,8 +165,10 @@ pub data Cmds : Type 0 where
 
 abbrev pub cmd_trees : Cmds → List Tree
 cmd_trees done = []
-cmd_trees (set at w i x a more) = tree.List at (tree.Name w (codes "set") ∷ tree.Name i x ∷ exp_tree a ∷ []) ∷ cmd_trees more
-cmd_trees (store4 at w a b more) = tree.List at (tree.Name w (codes "store4") ∷ exp_tree a ∷ exp_tree b ∷ []) ∷ cmd_trees more
+cmd_trees (set at w i x a more) =
+    tree.List at (tree.Name w (codes "set") ∷ tree.Name i x ∷ exp_tree a ∷ []) ∷ cmd_trees more
+cmd_trees (store4 at w a b more) =
+    tree.List at (tree.Name w (codes "store4") ∷ exp_tree a ∷ exp_tree b ∷ []) ∷ cmd_trees more
 cmd_trees (stackalloc at w i x j n ok body more) =
     tree.List at (tree.Name w (codes "stackalloc") ∷ tree.Name i x ∷ tree.Number j n ∷ cmd_trees body) ∷ cmd_trees more
 cmd_trees (cond at w a i iw first j jw second more) =
@@ -166,9 +179,12 @@ cmd_trees (cond at w a i iw first j jw second more) =
     ∷ tree.List j (tree.Name jw (codes "else") ∷ cmd_trees second)
     ∷ [])
     ∷ cmd_trees more
-cmd_trees (loop at w a body more) = tree.List at (tree.Name w (codes "while") ∷ exp_tree a ∷ cmd_trees body) ∷ cmd_trees more
-cmd_trees (call at w xs i f args more) = tree.List at (tree.Name w (codes "call") ∷ names_tree xs ∷ tree.Name i f ∷ args_trees args) ∷ cmd_trees more
-cmd_trees (interact at w xs i f args more) = tree.List at (tree.Name w (codes "interact") ∷ names_tree xs ∷ tree.Name i f ∷ args_trees args) ∷ cmd_trees more
+cmd_trees (loop at w a body more) =
+    tree.List at (tree.Name w (codes "while") ∷ exp_tree a ∷ cmd_trees body) ∷ cmd_trees more
+cmd_trees (call at w xs i f args more) =
+    tree.List at (tree.Name w (codes "call") ∷ names_tree xs ∷ tree.Name i f ∷ args_trees args) ∷ cmd_trees more
+cmd_trees (interact at w xs i f args more) =
+    tree.List at (tree.Name w (codes "interact") ∷ names_tree xs ∷ tree.Name i f ∷ args_trees args) ∷ cmd_trees more
 
 -- with their offsets
 abbrev pub cmds : Cmds → List Cmd
@@ -195,22 +211,27 @@ bare (interact at w xs i f args more) = cmd.Interact 0 (names_of xs) f (args_of 
 command-list : (at : ℕ) (items : List Tree) → command (tree.List at items) ≡ command_of at (map with_places items)
 command-list at items = ap (λ (p : Places). p.command) (places-list at items)
 
-behind : (at w : ℕ) (part : Text) (trees : List Tree) (body : List Cmd) → bytes_eq part part ≡ true → commands trees ≡ Ok body →
+behind : (at w : ℕ) (part : Text) (trees : List Tree) (body : List Cmd) → bytes_eq part part ≡ true →
+    commands trees ≡ Ok body →
     (places (tree.List at (tree.Name w part ∷ trees))).behind part ≡ Ok body
-behind at w part trees body same is = behind-list at (tree.Name w part ∷ trees) part ∙ rw (tree.outs-Name w part, same) is
+behind at w part trees body same is = behind-list at (tree.Name w part ∷ trees) part
+    ∙ rw (tree.outs-Name w part, same) is
 
-before : (t : Tree) (ts : List Tree) (c : Cmd) (cs : List Cmd) → command t ≡ Ok c → commands ts ≡ Ok cs → commands (t ∷ ts) ≡ Ok (c ∷ cs)
+before : (t : Tree) (ts : List Tree) (c : Cmd) (cs : List Cmd) → command t ≡ Ok c → commands ts ≡ Ok cs →
+    commands (t ∷ ts) ≡ Ok (c ∷ cs)
 before t ts c cs here there = rw (here, there) refl
 
 pub cmds_read : (p : Cmds) → commands (cmd_trees p) ≡ Ok (cmds p)
 cmds_read done = refl
 cmds_read (set at w i x a more) =
     before _ (cmd_trees more) _ (cmds more)
-    (command-list at (tree.Name w (codes "set") ∷ tree.Name i x ∷ exp_tree a ∷ []) ∙ rw (tree.outs-Name w (codes "set"), tree.outs-Name i x, exp_reads a) refl)
+    (command-list at (tree.Name w (codes "set") ∷ tree.Name i x ∷ exp_tree a ∷ [])
+    ∙ rw (tree.outs-Name w (codes "set"), tree.outs-Name i x, exp_reads a) refl)
     (cmds_read more)
 cmds_read (store4 at w a b more) =
     before _ (cmd_trees more) _ (cmds more)
-    (command-list at (tree.Name w (codes "store4") ∷ exp_tree a ∷ exp_tree b ∷ []) ∙ rw (tree.outs-Name w (codes "store4"), exp_reads a, exp_reads b) refl)
+    (command-list at (tree.Name w (codes "store4") ∷ exp_tree a ∷ exp_tree b ∷ [])
+    ∙ rw (tree.outs-Name w (codes "store4"), exp_reads a, exp_reads b) refl)
     (cmds_read more)
 cmds_read (stackalloc at w i x j n ok body more) =
     before _ (cmd_trees more) _ (cmds more)
@@ -225,48 +246,81 @@ cmds_read (cond at w a i iw first j jw second more) =
     ∷ tree.List i (tree.Name iw (codes "then") ∷ cmd_trees first)
     ∷ tree.List j (tree.Name jw (codes "else") ∷ cmd_trees second)
     ∷ [])
-    ∙ rw (tree.outs-Name w (codes "if"), exp_reads a, behind i iw (codes "then") (cmd_trees first) (cmds first) refl (cmds_read first), behind j jw (codes "else") (cmd_trees second) (cmds second) refl (cmds_read second)) refl)
+    ∙ rw (
+      tree.outs-Name w (codes "if"),
+      exp_reads a,
+      behind i iw (codes "then") (cmd_trees first) (cmds first) refl
+          (cmds_read first),
+      behind j jw (codes "else") (cmd_trees second) (cmds second) refl (cmds_read second),
+    ) refl)
     (cmds_read more)
 cmds_read (loop at w a body more) =
     before _ (cmd_trees more) _ (cmds more)
-    (command-list at (tree.Name w (codes "while") ∷ exp_tree a ∷ cmd_trees body) ∙ rw (tree.outs-Name w (codes "while"), exp_reads a, cmds_read body) refl)
+    (command-list at (tree.Name w (codes "while") ∷ exp_tree a ∷ cmd_trees body)
+    ∙ rw (tree.outs-Name w (codes "while"), exp_reads a, cmds_read body) refl)
     (cmds_read more)
 cmds_read (call at w xs i f args more) =
     before _ (cmd_trees more) _ (cmds more)
     (command-list at (tree.Name w (codes "call") ∷ names_tree xs ∷ tree.Name i f ∷ args_trees args)
-    ∙ rw (tree.outs-Name w (codes "call"), tree.outs-Name i f, trees_with_places (args_trees args), names_read xs, args_read args) refl)
+    ∙ rw (
+      tree.outs-Name w (codes "call"),
+      tree.outs-Name i f,
+      trees_with_places
+          (args_trees args),
+      names_read xs,
+      args_read args,
+    ) refl)
     (cmds_read more)
 cmds_read (interact at w xs i f args more) =
     before _ (cmd_trees more) _ (cmds more)
     (command-list at (tree.Name w (codes "interact") ∷ names_tree xs ∷ tree.Name i f ∷ args_trees args)
-    ∙ rw (tree.outs-Name w (codes "interact"), tree.outs-Name i f, trees_with_places (args_trees args), names_read xs, args_read args) refl)
+    ∙ rw (
+      tree.outs-Name w (codes "interact"),
+      tree.outs-Name i f,
+      trees_with_places
+          (args_trees args),
+      names_read xs,
+      args_read args,
+    ) refl)
     (cmds_read more)
 
 pub cmds_bare : (p : Cmds) → map unplaced (cmds p) ≡ bare p
 cmds_bare done = refl
 cmds_bare (set at w i x a more) =
-    ap (λ c. c ∷ map unplaced (cmds more)) (ap unplaced (sym (cmd.rolls-Set x (exp a))) ∙ fold-roll-Cmd Cmd unplaced_step (Cmd-F.Set x (exp a)))
+    ap (λ c. c ∷ map unplaced (cmds more))
+    (ap unplaced (sym (cmd.rolls-Set x (exp a))) ∙ fold-roll-Cmd Cmd unplaced_step (Cmd-F.Set x (exp a)))
     ∙ ap (λ cs. cmd.Set x (exp a) ∷ cs) (cmds_bare more)
 cmds_bare (store4 at w a b more) =
-    ap (λ c. c ∷ map unplaced (cmds more)) (ap unplaced (sym (cmd.rolls-Store size.Four (exp a) (exp b))) ∙ fold-roll-Cmd Cmd unplaced_step (Cmd-F.Store size.Four (exp a) (exp b)))
+    ap (λ c. c ∷ map unplaced (cmds more))
+    (ap unplaced (sym (cmd.rolls-Store size.Four (exp a) (exp b)))
+    ∙ fold-roll-Cmd Cmd unplaced_step (Cmd-F.Store size.Four (exp a) (exp b)))
     ∙ ap (λ cs. cmd.Store size.Four (exp a) (exp b) ∷ cs) (cmds_bare more)
 cmds_bare (stackalloc at w i x j n ok body more) =
-    ap (λ c. c ∷ map unplaced (cmds more)) (ap unplaced (sym (cmd.rolls-Stackalloc x n (cmds body))) ∙ fold-roll-Cmd Cmd unplaced_step (Cmd-F.Stackalloc x n (cmds body)) ∙ ap (cmd.Stackalloc x n) (cmds_bare body))
+    ap (λ c. c ∷ map unplaced (cmds more))
+    (ap unplaced (sym (cmd.rolls-Stackalloc x n (cmds body)))
+    ∙ fold-roll-Cmd Cmd unplaced_step (Cmd-F.Stackalloc x n (cmds body)) ∙ ap (cmd.Stackalloc x n) (cmds_bare body))
     ∙ ap (λ cs. cmd.Stackalloc x n (bare body) ∷ cs) (cmds_bare more)
 cmds_bare (cond at w a i iw first j jw second more) =
     ap (λ c. c ∷ map unplaced (cmds more))
-    (ap unplaced (sym (cmd.rolls-If (exp a) (cmds first) (cmds second))) ∙ fold-roll-Cmd Cmd unplaced_step (Cmd-F.If (exp a) (cmds first) (cmds second))
+    (ap unplaced (sym (cmd.rolls-If (exp a) (cmds first) (cmds second)))
+    ∙ fold-roll-Cmd Cmd unplaced_step (Cmd-F.If (exp a) (cmds first) (cmds second))
     ∙ ap (λ (cs : List Cmd). cmd.If (exp a) cs (map unplaced (cmds second))) (cmds_bare first)
     ∙ ap (cmd.If (exp a) (bare first)) (cmds_bare second))
     ∙ ap (λ cs. cmd.If (exp a) (bare first) (bare second) ∷ cs) (cmds_bare more)
 cmds_bare (loop at w a body more) =
-    ap (λ c. c ∷ map unplaced (cmds more)) (ap unplaced (sym (cmd.rolls-While (exp a) (cmds body))) ∙ fold-roll-Cmd Cmd unplaced_step (Cmd-F.While (exp a) (cmds body)) ∙ ap (cmd.While (exp a)) (cmds_bare body))
+    ap (λ c. c ∷ map unplaced (cmds more))
+    (ap unplaced (sym (cmd.rolls-While (exp a) (cmds body)))
+    ∙ fold-roll-Cmd Cmd unplaced_step (Cmd-F.While (exp a) (cmds body)) ∙ ap (cmd.While (exp a)) (cmds_bare body))
     ∙ ap (λ cs. cmd.While (exp a) (bare body) ∷ cs) (cmds_bare more)
 cmds_bare (call at w xs i f args more) =
-    ap (λ c. c ∷ map unplaced (cmds more)) (ap unplaced (sym (cmd.rolls-Call i (names_of xs) f (args_of args))) ∙ fold-roll-Cmd Cmd unplaced_step (Cmd-F.Call i (names_of xs) f (args_of args)))
+    ap (λ c. c ∷ map unplaced (cmds more))
+    (ap unplaced (sym (cmd.rolls-Call i (names_of xs) f (args_of args)))
+    ∙ fold-roll-Cmd Cmd unplaced_step (Cmd-F.Call i (names_of xs) f (args_of args)))
     ∙ ap (λ cs. cmd.Call 0 (names_of xs) f (args_of args) ∷ cs) (cmds_bare more)
 cmds_bare (interact at w xs i f args more) =
-    ap (λ c. c ∷ map unplaced (cmds more)) (ap unplaced (sym (cmd.rolls-Interact i (names_of xs) f (args_of args))) ∙ fold-roll-Cmd Cmd unplaced_step (Cmd-F.Interact i (names_of xs) f (args_of args)))
+    ap (λ c. c ∷ map unplaced (cmds more))
+    (ap unplaced (sym (cmd.rolls-Interact i (names_of xs) f (args_of args)))
+    ∙ fold-roll-Cmd Cmd unplaced_step (Cmd-F.Interact i (names_of xs) f (args_of args)))
     ∙ ap (λ cs. cmd.Interact 0 (names_of xs) f (args_of args) ∷ cs) (cmds_bare more)
 
 -- ---- functions
@@ -281,17 +335,43 @@ pub record Function : Type 0 where
   pub body : Cmds
 
 abbrev pub function_tree : Function → Tree
-function_tree f = tree.List f.at (tree.Name f.word_at (codes "fn") ∷ tree.Name f.name_at f.name ∷ names_tree f.args ∷ names_tree f.results ∷ cmd_trees f.body)
+function_tree f = tree.List f.at
+    (tree.Name f.word_at (codes "fn")
+    ∷ tree.Name f.name_at f.name ∷ names_tree f.args ∷ names_tree f.results ∷ cmd_trees f.body)
 
 abbrev pub placed : Function → Func
-placed f = record { at = f.name_at; name = f.name; args = names_of f.args; results = names_of f.results; body = cmds f.body }
+placed f = record {
+  at = f.name_at;
+  name = f.name;
+  args = names_of f.args;
+  results = names_of f.results;
+  body =
+      cmds f.body;
+}
 
 abbrev pub bare_function : Function → Func
-bare_function f = record { at = 0; name = f.name; args = names_of f.args; results = names_of f.results; body = bare f.body }
+bare_function f = record {
+  at = 0;
+  name = f.name;
+  args = names_of f.args;
+  results = names_of f.results;
+  body =
+      bare f.body;
+}
 
 function_reads : (f : Function) → function (function_tree f) ≡ Ok (placed f)
 function_reads f =
-    rw (tree.outs-List f.at (tree.Name f.word_at (codes "fn") ∷ tree.Name f.name_at f.name ∷ names_tree f.args ∷ names_tree f.results ∷ cmd_trees f.body), tree.outs-Name f.word_at (codes "fn"), tree.outs-Name f.name_at f.name, names_read f.args, names_read f.results, cmds_read f.body) refl
+    rw (
+      tree.outs-List f.at (tree.Name f.word_at (codes "fn")
+          ∷ tree.Name f.name_at f.name ∷ names_tree f.args ∷ names_tree f.results ∷ cmd_trees f.body),
+      tree.outs-Name
+          f.word_at (codes "fn"),
+      tree.outs-Name f.name_at f.name,
+      names_read f.args,
+      names_read f.results,
+      cmds_read
+          f.body,
+    ) refl
 
 pub functions_read : (fs : List Function) → functions (map function_tree fs) ≡ Ok (map placed fs)
 functions_read [] = refl
@@ -300,7 +380,14 @@ functions_read (f ∷ fs) = rw (function_reads f, functions_read fs) refl
 pub functions_bare : (fs : List Function) → without_offsets (map placed fs) ≡ map bare_function fs
 functions_bare [] = refl
 functions_bare (f ∷ fs) =
-    ap (λ (body : List Cmd). record { at = 0; name = f.name; args = names_of f.args; results = names_of f.results; body = body } ∷ without_offsets (map placed fs)) (cmds_bare f.body)
+    ap (λ (body : List Cmd). record {
+      at = 0;
+      name = f.name;
+      args = names_of f.args;
+      results =
+          names_of f.results;
+      body = body;
+    } ∷ without_offsets (map placed fs)) (cmds_bare f.body)
     ∙ ap (λ (gs : List Func). bare_function f ∷ gs) (functions_bare fs)
 
 -- ---- all trees
@@ -323,24 +410,32 @@ args_forest (two_args a b) = exp_forest a (exp_forest b forest.nil)
 
 abbrev cmds_forest : Cmds → Forest
 cmds_forest done = forest.nil
-cmds_forest (set at w i x a more) = forest.list at (forest.name w (codes "set") (forest.name i x (exp_forest a forest.nil))) (cmds_forest more)
-cmds_forest (store4 at w a b more) = forest.list at (forest.name w (codes "store4") (exp_forest a (exp_forest b forest.nil))) (cmds_forest more)
+cmds_forest (set at w i x a more) =
+    forest.list at (forest.name w (codes "set") (forest.name i x (exp_forest a forest.nil))) (cmds_forest more)
+cmds_forest (store4 at w a b more) =
+    forest.list at (forest.name w (codes "store4") (exp_forest a (exp_forest b forest.nil))) (cmds_forest more)
 cmds_forest (stackalloc at w i x j n ok body more) =
-    forest.list at (forest.name w (codes "stackalloc") (forest.name i x (forest.number j n (cmds_forest body)))) (cmds_forest more)
+    forest.list at (forest.name w (codes "stackalloc") (forest.name i x (forest.number j n (cmds_forest body))))
+    (cmds_forest more)
 cmds_forest (cond at w a i iw first j jw second more) =
     forest.list at
     (forest.name w (codes "if") (exp_forest a
-    (forest.list i (forest.name iw (codes "then") (cmds_forest first)) (forest.list j (forest.name jw (codes "else") (cmds_forest second)) forest.nil))))
+    (forest.list i (forest.name iw (codes "then") (cmds_forest first))
+    (forest.list j (forest.name jw (codes "else") (cmds_forest second)) forest.nil))))
     (cmds_forest more)
-cmds_forest (loop at w a body more) = forest.list at (forest.name w (codes "while") (exp_forest a (cmds_forest body))) (cmds_forest more)
+cmds_forest (loop at w a body more) =
+    forest.list at (forest.name w (codes "while") (exp_forest a (cmds_forest body))) (cmds_forest more)
 cmds_forest (call at w xs i f args more) =
-    forest.list at (forest.name w (codes "call") (names_forest xs (forest.name i f (args_forest args)))) (cmds_forest more)
+    forest.list at (forest.name w (codes "call") (names_forest xs (forest.name i f (args_forest args))))
+    (cmds_forest more)
 cmds_forest (interact at w xs i f args more) =
-    forest.list at (forest.name w (codes "interact") (names_forest xs (forest.name i f (args_forest args)))) (cmds_forest more)
+    forest.list at (forest.name w (codes "interact") (names_forest xs (forest.name i f (args_forest args))))
+    (cmds_forest more)
 
 abbrev pub functions_forest : List Function → Forest
 functions_forest [] = forest.nil
 functions_forest (f ∷ fs) =
     forest.list f.at
-    (forest.name f.word_at (codes "fn") (forest.name f.name_at f.name (names_forest f.args (names_forest f.results (cmds_forest f.body)))))
+    (forest.name f.word_at (codes "fn")
+    (forest.name f.name_at f.name (names_forest f.args (names_forest f.results (cmds_forest f.body)))))
     (functions_forest fs)

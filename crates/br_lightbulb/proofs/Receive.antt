@@ -39,11 +39,21 @@ abbrev Failing : ℕ → Language
 Failing l es = (ws : List ℕ) × (length ws < words_for (frame_length l)) × (frame_words ws ▸ failed_read 0) es
 
 -- one more word
-more_words : (ws : List ℕ) (w : ℕ) (es fs : List Event) → frame_words ws es → read_word 0 w fs → frame_words (ws ++ w ∷ []) (es ++ fs)
-more_words [] w es fs e r = (fs, [], subst (λ (q : List Event). q ++ fs ≡ fs ++ []) (sym e) (sym (append-nil fs)), r, refl)
-more_words (x ∷ ws) w es fs (f, g, e, x_is, t) r = (f, g ++ fs, ap (λ q. q ++ fs) e ∙ append_assoc f g fs, x_is, more_words ws w g fs t r)
+more_words : (ws : List ℕ) (w : ℕ) (es fs : List Event) → frame_words ws es → read_word 0 w fs →
+    frame_words (ws ++ w ∷ []) (es ++ fs)
+more_words [] w es fs e r = (
+  fs,
+  [],
+  subst (λ (q : List Event). q ++ fs ≡ fs ++ []) (sym e)
+      (sym (append-nil fs)),
+  r,
+  refl,
+)
+more_words (x ∷ ws) w es fs (f, g, e, x_is, t) r =
+    (f, g ++ fs, ap (λ q. q ++ fs) e ∙ append_assoc f g fs, x_is, more_words ws w g fs t r)
 
-whole : (l : ℕ) (ws : List ℕ) (us es : List Event) → read_word 0x40 l us → frame_words ws es → length ws ≡ words_for (frame_length l) → received (first_bytes (frame_length l) ws) (us ++ es)
+whole : (l : ℕ) (ws : List ℕ) (us es : List Event) → read_word 0x40 l us → frame_words ws es →
+    length ws ≡ words_for (frame_length l) → received (first_bytes (frame_length l) ws) (us ++ es)
 whole l ws us es r t all = (l, (us, es, refl, r, (ws, ((all, refl), t))))
 
 failed : (l : ℕ) (us es : List Event) → read_word 0x40 l us → Failing l es → failed_receive (us ++ es)
@@ -52,9 +62,14 @@ failed l us es r (ws, few, t) = inr (l, (us, es, refl, r, (ws, (few, t))))
 -- ---- some list can always follow
 
 sooner : (es more : List Event) → BeginsFrame (es ++ more) → BeginsFrame es
-sooner es more (rest, x) = (more ++ rest, subst (λ (q : List Event). either (some received) failed_receive q) (append_assoc es more rest) x)
+sooner es more (rest, x) = (
+  more ++ rest,
+  subst (λ (q : List Event). either (some received) failed_receive q)
+      (append_assoc es more rest) x,
+)
 
-words_ahead : (l : ℕ) (ws : List ℕ) (us es : List Event) → read_word 0x40 l us → frame_words ws es → length ws ≤ words_for (frame_length l) → BeginsFrame (us ++ es)
+words_ahead : (l : ℕ) (ws : List ℕ) (us es : List Event) → read_word 0x40 l us → frame_words ws es →
+    length ws ≤ words_for (frame_length l) → BeginsFrame (us ++ es)
 words_ahead l ws us es r t most = by (nat_lt (length ws) (words_for (frame_length l))) refl
   where
     all_there : (a b : ℕ) → a ≤ b → nat_lt a b ≡ false → a ≡ b
@@ -63,25 +78,46 @@ words_ahead l ws us es r t most = by (nat_lt (length ws) (words_for (frame_lengt
     not_all : (a b : ℕ) → nat_lt a b ≡ true → a < b
     not_all a b k = grind (arith, nat_tests)
 
-    fails : nat_lt (length ws) (words_for (frame_length l)) ≡ true → (fs : List Event) × failed_read 0 fs → BeginsFrame (us ++ es)
-    fails is (fs, f) = (fs, inr (subst failed_receive (sym (append_assoc us es fs)) (failed l us (es ++ fs) r (ws, not_all (length ws) (words_for (frame_length l)) is, (es, fs, refl, t, f)))))
+    fails : nat_lt (length ws) (words_for (frame_length l)) ≡ true →
+        (fs : List Event) × failed_read 0 fs → BeginsFrame (us ++ es)
+    fails is (fs, f) = (
+      fs,
+      inr (subst failed_receive (sym (append_assoc us es fs))
+          (failed l us (es ++ fs) r (ws, not_all (length ws) (words_for (frame_length l)) is, (es, fs, refl, t, f)))),
+    )
 
     by : (b : Bool) → nat_lt (length ws) (words_for (frame_length l)) ≡ b → BeginsFrame (us ++ es)
     by true is = fails is (unready_read 0)
-    by false is = ([], inl (first_bytes (frame_length l) ws, subst (received (first_bytes (frame_length l) ws)) (sym (append-nil (us ++ es))) (whole l ws us es r t (all_there (length ws) (words_for (frame_length l)) most is))))
+    by false is = (
+      [],
+      inl (
+        first_bytes (frame_length l) ws,
+        subst (received (first_bytes (frame_length l) ws))
+            (sym (append-nil (us ++ es))) (whole l ws us es r t
+            (all_there (length ws) (words_for (frame_length l)) most is)),
+      ),
+    )
 
 -- in a word
-word_ahead : (l : ℕ) (ws : List ℕ) (us es fs : List Event) → read_word 0x40 l us → frame_words ws es → length ws < words_for (frame_length l) → Begins (read_piece 0) fs → BeginsFrame (us ++ (es ++ fs))
+word_ahead : (l : ℕ) (ws : List ℕ) (us es fs : List Event) → read_word 0x40 l us → frame_words ws es →
+    length ws < words_for (frame_length l) → Begins (read_piece 0) fs → BeginsFrame (us ++ (es ++ fs))
 word_ahead l ws us es fs r t few (words, more, inl (w, is, x)) =
-    sooner (us ++ (es ++ fs)) more (subst BeginsFrame (ap (λ q. us ++ q) (sym (append_assoc es fs more)) ∙ sym (append_assoc us (es ++ fs) more))
-    (words_ahead l (ws ++ w ∷ []) us (es ++ (fs ++ more)) r (more_words ws w es (fs ++ more) t x) (omega (arith, length-append ws (w ∷ [])))))
+    sooner (us ++ (es ++ fs)) more (subst BeginsFrame
+    (ap (λ q. us ++ q) (sym (append_assoc es fs more)) ∙ sym (append_assoc us (es ++ fs) more))
+    (words_ahead l (ws ++ w ∷ []) us (es ++ (fs ++ more)) r (more_words ws w es (fs ++ more) t x)
+    (omega (arith, length-append ws (w ∷ [])))))
 word_ahead l ws us es fs r t few (words, more, inr (w, is, x)) =
-    sooner (us ++ (es ++ fs)) more (subst BeginsFrame (ap (λ q. us ++ q) (sym (append_assoc es fs more)) ∙ sym (append_assoc us (es ++ fs) more))
-    ([], inr (subst failed_receive (sym (append-nil (us ++ (es ++ (fs ++ more))))) (failed l us (es ++ (fs ++ more)) r (ws, few, (es, fs ++ more, refl, t, x))))))
+    sooner (us ++ (es ++ fs)) more (subst BeginsFrame
+    (ap (λ q. us ++ q) (sym (append_assoc es fs more)) ∙ sym (append_assoc us (es ++ fs) more)) (
+      [],
+      inr (subst failed_receive (sym (append-nil (us ++ (es ++ (fs ++ more)))))
+          (failed l us (es ++ (fs ++ more)) r (ws, few, (es, fs ++ more, refl, t, x)))),
+    ))
 
 -- in the length
 length_ahead : (fs : List Event) → Begins (read_piece 0x40) fs → BeginsFrame fs
-length_ahead fs (words, more, inl (l, is, x)) = sooner fs more (subst BeginsFrame (append-nil (fs ++ more)) (words_ahead l [] (fs ++ more) [] x refl (omega arith)))
+length_ahead fs (words, more, inl (l, is, x)) =
+    sooner fs more (subst BeginsFrame (append-nil (fs ++ more)) (words_ahead l [] (fs ++ more) [] x refl (omega arith)))
 length_ahead fs (words, more, inr (l, is, x)) = (more, inr (inl x))
 
 -- ---- the bytes
@@ -100,8 +136,10 @@ bytes_more : (ws : List ℕ) (w : ℕ) → bytes_of (ws ++ w ∷ []) ≡ bytes_o
 bytes_more ws w = flat_map-append (low_bytes 4) ws (w ∷ []) ∙ ap (λ q. bytes_of ws ++ q) (append-nil (low_bytes 4 w))
 
 -- a word is stored after those before it
-holds_more : (m : Memory) (p w : ℕ) (ws : List ℕ) → IsBuffer m p 1520 → 4 * length ws < 1520 → Holds m p (bytes_of ws) → Holds (with_bytes m (p + 4 * length ws) (low_bytes 4 w)) p (bytes_of (ws ++ w ∷ []))
-holds_more m p w ws b room h = subst (Holds (with_bytes m (p + 4 * length ws) (low_bytes 4 w)) p) (sym (bytes_more ws w)) (λ j long less. by j long less (sides (p + j) (p + 4 * length ws) 4))
+holds_more : (m : Memory) (p w : ℕ) (ws : List ℕ) → IsBuffer m p 1520 → 4 * length ws < 1520 → Holds m p (bytes_of ws) →
+    Holds (with_bytes m (p + 4 * length ws) (low_bytes 4 w)) p (bytes_of (ws ++ w ∷ []))
+holds_more m p w ws b room h = subst (Holds (with_bytes m (p + 4 * length ws) (low_bytes 4 w)) p)
+    (sym (bytes_more ws w)) (λ j long less. by j long less (sides (p + j) (p + 4 * length ws) 4))
   where
     n : ℕ
     n = 4 * length ws
@@ -115,22 +153,28 @@ holds_more m p w ws b room h = subst (Holds (with_bytes m (p + 4 * length ws) (l
     total : length (bytes_of ws ++ low_bytes 4 w) ≡ 4 * length ws + 4
     total = length-append (bytes_of ws) (low_bytes 4 w) ∙ ap (λ k. k + 4) (many_bytes ws)
 
-    by : (j : ℕ) → j < length (bytes_of ws ++ low_bytes 4 w) → j < 1520 → (((p + j < p + 4 * length ws) ⊎ (p + 4 * length ws + 4 ≤ p + j)) ⊎ ((k : ℕ) × (k < 4) × (p + j ≡ p + 4 * length ws + k))) →
+    by : (j : ℕ) → j < length (bytes_of ws ++ low_bytes 4 w) → j < 1520 →
+        (((p + j < p + 4 * length ws) ⊎ (p + 4 * length ws + 4 ≤ p + j)) ⊎
+        ((k : ℕ) × (k < 4) × (p + j ≡ p + 4 * length ws + k))) →
         map.get m' (p + j) ≡ Some (slice_index (bytes_of ws ++ low_bytes 4 w) j)
     by j long less (inl (inl low)) =
         let before : j < length (bytes_of ws) = omega (arith, many_bytes ws) in
-        outside (low_bytes 4 w) m (p + 4 * length ws) (p + j) (fits b.below) (inl low) ∙ h j before less ∙ ap Some (sym (get_or-append (bytes_of ws) (low_bytes 4 w) 0 j before))
-    by j long less (inl (inr high)) = absurd (never j (4 * length ws) p (length (bytes_of ws ++ low_bytes 4 w)) total long high)
+        outside (low_bytes 4 w) m (p + 4 * length ws) (p + j) (fits b.below) (inl low)
+        ∙ h j before less ∙ ap Some (sym (get_or-append (bytes_of ws) (low_bytes 4 w) 0 j before))
+    by j long less (inl (inr high)) =
+        absurd (never j (4 * length ws) p (length (bytes_of ws ++ low_bytes 4 w)) total long high)
       where
         never : (j n p t : ℕ) → t ≡ n + 4 → j < t → p + n + 4 ≤ p + j → ⊥
         never j n p t e f g = omega arith
     by j long less (inr (k, short, e)) =
         let index : j ≡ length (bytes_of ws) + k = omega (arith, many_bytes ws) in
         ap (map.get m') e ∙ within (low_bytes 4 w) m (p + 4 * length ws) k (fits b.below) short
-        ∙ ap Some (sym (ap (λ q. slice_index (bytes_of ws ++ low_bytes 4 w) q) index ∙ get_or-append-add (bytes_of ws) (low_bytes 4 w) k 0))
+        ∙ ap Some (sym (ap (λ q. slice_index (bytes_of ws ++ low_bytes 4 w) q) index
+        ∙ get_or-append-add (bytes_of ws) (low_bytes 4 w) k 0))
 
 -- a word that a buffer has no room for
-holds_past : (m : Memory) (p w : ℕ) (ws : List ℕ) → 1520 ≤ 4 * length ws → Holds m p (bytes_of ws) → Holds m p (bytes_of (ws ++ w ∷ []))
+holds_past : (m : Memory) (p w : ℕ) (ws : List ℕ) → 1520 ≤ 4 * length ws → Holds m p (bytes_of ws) →
+    Holds m p (bytes_of (ws ++ w ∷ []))
 holds_past m p w ws full h = subst (Holds m p) (sym (bytes_more ws w)) by
   where
     by : Holds m p (bytes_of ws ++ low_bytes 4 w)
@@ -141,7 +185,8 @@ holds_past m p w ws full h = subst (Holds m p) (sym (bytes_more ws w)) by
 length_taken : (n : ℕ) (ws : List ℕ) → length ws ≡ words_for n → length (first_bytes n ws) ≡ n
 length_taken n ws all = length-take-le n (bytes_of ws) (omega (arith, many_bytes ws))
 
-holds_first : (m : Memory) (p n : ℕ) (ws : List ℕ) → length ws ≡ words_for n → Holds m p (bytes_of ws) → Holds m p (first_bytes n ws)
+holds_first : (m : Memory) (p n : ℕ) (ws : List ℕ) → length ws ≡ words_for n → Holds m p (bytes_of ws) →
+    Holds m p (first_bytes n ws)
 holds_first m p n ws all h j long less =
     let below : j < n = omega (arith, length_taken n ws all) in
     let there : j < length (bytes_of ws) = omega (arith, many_bytes ws) in
@@ -178,7 +223,8 @@ storing =
     (set name.i (op Add (var name.i) (lit 4)) done)
 
 abbrev each : Commands
-each = call (name.w ∷ name.bad ∷ []) name.lan_read (lit 0 ∷ []) (cond (var name.bad) (set name.n (lit 0) done) storing done)
+each = call (name.w ∷ name.bad ∷ []) name.lan_read (lit 0 ∷ [])
+    (cond (var name.bad) (set name.n (lit 0) done) storing done)
 
 -- where a run may stop once the length was read
 abbrev MayStop : ℕ → List Event → List Event → (List Event → Type 0) → Type 0
@@ -193,23 +239,28 @@ full k h = grind (arith, nat_tests)
 more_left : (k l : ℕ) → nat_lt (4 * k) (frame_length l) ≡ true → k < words_for (frame_length l)
 more_left k l h = let g : 4 * k < frame_length l = grind (arith, nat_tests) in omega arith
 
-all_read : (k l : ℕ) → k ≤ words_for (frame_length l) → nat_lt (4 * k) (frame_length l) ≡ false → k ≡ words_for (frame_length l)
+all_read : (k l : ℕ) → k ≤ words_for (frame_length l) → nat_lt (4 * k) (frame_length l) ≡ false →
+    k ≡ words_for (frame_length l)
 all_read k l few h = let g : frame_length l ≤ 4 * k = grind (arith, nat_tests) in omega arith
 
-next_index : (k l : ℕ) (ws : List ℕ) (w : ℕ) → k ≡ length ws → k < words_for (frame_length l) → value_of_op Add (4 * k) 4 ≡ 4 * length (ws ++ w ∷ [])
+next_index : (k l : ℕ) (ws : List ℕ) (w : ℕ) → k ≡ length ws → k < words_for (frame_length l) →
+    value_of_op Add (4 * k) 4 ≡ 4 * length (ws ++ w ∷ [])
 next_index k l ws w e few = omega (arith, length-append ws (w ∷ []))
 
 address : (p k : ℕ) → p + 1520 ≤ 2 ^ 32 → k + 4 ≤ 1520 → value_of_op Add p k ≡ p + k
 address p k fits room = omega arith
 
 -- a word was read
-got_word : (C : Callee) (l p w : ℕ) (U es fs : List Event) (S : List Event → Type 0) (t o : State) → (g : Gets l p t es) → length g.ws < words_for (frame_length l) → read_word 0 w fs →
-    Leads C S (Leads C S (Loops l p U) done) storing (upon (with_locals (name.w ∷ name.bad ∷ []) (w ∷ 0 ∷ []) t.locals) t.memory (U ++ (es ++ fs)) o)
+got_word : (C : Callee) (l p w : ℕ) (U es fs : List Event) (S : List Event → Type 0) (t o : State) →
+    (g : Gets l p t es) → length g.ws < words_for (frame_length l) → read_word 0 w fs →
+    Leads C S (Leads C S (Loops l p U) done) storing
+    (upon (with_locals (name.w ∷ name.bad ∷ []) (w ∷ 0 ∷ []) t.locals) t.memory (U ++ (es ++ fs)) o)
 got_word C l p w U es fs S t o g few r =
     tests (nat_lt (4 * length g.ws) 1520) (rw g.i refl)
     (λ is. let room : 4 * length g.ws + 4 ≤ 1520 = room_for_word (length g.ws) is in
     stores {p = p + 4 * length g.ws} {v = w} {m = with_bytes t.memory (p + 4 * length g.ws) (low_bytes 4 w)}
-    (rw (g.p_is, g.i) (ap Some (address p (4 * length g.ws) g.buffer.below room))) refl (stored t.memory p 1520 (4 * length g.ws) w g.buffer room)
+    (rw (g.p_is, g.i) (ap Some (address p (4 * length g.ws) g.buffer.below room))) refl
+    (stored t.memory p 1520 (4 * length g.ws) w g.buffer room)
     (ends (sets {v = 4 * length (g.ws ++ w ∷ [])} (rw g.i (ap Some (next_index (length g.ws) l g.ws w refl few)))
     (ends (ends (
       es ++ fs,
@@ -221,7 +272,8 @@ got_word C l p w U es fs S t o g few r =
         n = g.n;
         bad = refl;
         p_is = g.p_is;
-        buffer = still_buffer t.memory p 1520 (p + 4 * length g.ws) (low_bytes 4 w) g.buffer (fits p (length g.ws) g.buffer.below room);
+        buffer = still_buffer t.memory p 1520 (p + 4 * length g.ws) (low_bytes 4 w) g.buffer
+            (fits p (length g.ws) g.buffer.below room);
         holds = holds_more t.memory p w g.ws g.buffer (omega arith) g.holds;
         words = more_words g.ws w es fs g.words r;
       }),
@@ -246,12 +298,26 @@ got_word C l p w U es fs S t o g few r =
     fits : (p k : ℕ) → p + 1520 ≤ 2 ^ 32 → 4 * k + 4 ≤ 1520 → p + 4 * k + 4 ≤ 2 ^ 32
     fits p k f room = omega arith
 
-gets_turn : (C : Callee) (l p : ℕ) (us U es : List Event) (S : List Event → Type 0) (t : State) → Words C → MayStop l us U S → read_word 0x40 l us → (g : Gets l p t es) → length g.ws < words_for (frame_length l) →
+gets_turn : (C : Callee) (l p : ℕ) (us U es : List Event) (S : List Event → Type 0) (t : State) → Words C →
+    MayStop l us U S → read_word 0x40 l us → (g : Gets l p t es) → length g.ws < words_for (frame_length l) →
     Leads C S (Loops l p U) each (upon t.locals t.memory (U ++ es) t)
 gets_turn C l p us U es S t known may r g few =
     reads_word U es known (λ fs b. may (es ++ fs) (word_ahead l g.ws us es fs r g.words few b))
     (λ w fs o x. second_of_two {v = 0} refl refl (got_word C l p w U es fs S t o g few x))
-    (λ w fs o x. first_of_two {v = 1} refl refl (sets {v = 0} refl (ends (ends (es ++ fs, refl, inr (record { k = 4 * length g.ws; i = g.i; n = refl; bad = refl; failing = (g.ws, few, (es, fs, refl, g.words, x)) }))))))
+    (λ w fs o x. first_of_two {v = 1} refl refl
+    (sets {v = 0} refl (ends (ends (
+      es ++ fs,
+      refl,
+      inr
+          (record {
+            k = 4 * length g.ws;
+            i = g.i;
+            n = refl;
+            bad = refl;
+            failing =
+                (g.ws, few, (es, fs, refl, g.words, x));
+          }),
+    )))))
 
 -- ---- the whole
 
@@ -272,23 +338,50 @@ stops_here s l us es b = (us ++ es, append_assoc s.trace us es, b)
 failing_ahead : (l : ℕ) (us es : List Event) → read_word 0x40 l us → Failing l es → BeginsFrame (us ++ es)
 failing_ahead l us es r f = ([], inr (subst failed_receive (sym (append-nil (us ++ es))) (failed l us es r f)))
 
-read_all : (l p : ℕ) (us es : List Event) (s t : State) → read_word 0x40 l us → t.trace ≡ (s.trace ++ us) ++ es → (g : Gets l p t es) → length g.ws ≡ words_for (frame_length l) → Answers s p t
+read_all : (l p : ℕ) (us es : List Event) (s t : State) → read_word 0x40 l us → t.trace ≡ (s.trace ++ us) ++ es →
+    (g : Gets l p t es) → length g.ws ≡ words_for (frame_length l) → Answers s p t
 read_all l p us es s t r e g all = (
   frame_length l ∷ 0 ∷ [],
   words_of_two name.n name.bad t.locals (frame_length l) 0 g.n g.bad,
-  (us ++ es, e ∙ append_assoc s.trace us es, inl (first_bytes (frame_length l) g.ws, ap (λ k. k ∷ 0 ∷ []) (sym (length_taken (frame_length l) g.ws all)), holds_first t.memory p (frame_length l) g.ws all g.holds, whole l g.ws us es r g.words all)),
+  (
+    us ++ es,
+    e ∙ append_assoc s.trace us es,
+    inl (
+      first_bytes (frame_length l) g.ws,
+      ap (λ k. k ∷ 0 ∷ [])
+          (sym (length_taken (frame_length l) g.ws all)),
+      holds_first t.memory p (frame_length l)
+          g.ws all g.holds,
+      whole l g.ws us es r g.words all,
+    ),
+  ),
 )
 
-turn : (C : Callee) (l p : ℕ) (us : List Event) (s : State) → Words C → read_word 0x40 l us → (t : State) → Loops l p (s.trace ++ us) t →
-    Turns C (Stopped s) (Loops l p (s.trace ++ us)) (Leads C (Stopped s) (Leads C (Stopped s) (Answers s p) done) done) (op Ltu (var name.i) (var name.n)) each t
+turn : (C : Callee) (l p : ℕ) (us : List Event) (s : State) → Words C → read_word 0x40 l us →
+    (t : State) → Loops l p (s.trace ++ us) t →
+    Turns C (Stopped s) (Loops l p (s.trace ++ us)) (Leads C (Stopped s) (Leads C (Stopped s) (Answers s p) done) done)
+    (op Ltu (var name.i) (var name.n)) each t
 turn C l p us s known r t (es, e, inl g) = record {
   word = flag (nat_lt (4 * length g.ws) (frame_length l));
   has = rw (g.i, g.n) refl;
   stops = (us ++ es, e ∙ append_assoc s.trace us es, words_ahead l g.ws us es r g.words g.few);
-  over = λ is. ends (ends (read_all l p us es s t r e g (all_read (length g.ws) l g.few (is_false (nat_lt (4 * length g.ws) (frame_length l)) is))));
-  on = λ is k. at_state C (Stopped s) (Loops l p (s.trace ++ us)) each (record t { fuel = k }) t.memory ((s.trace ++ us) ++ es) refl e
+  over = λ is. ends (ends (read_all l p us es s t r e g
+      (all_read (length g.ws) l g.few (is_false (nat_lt (4 * length g.ws) (frame_length l)) is))));
+  on = λ is k. at_state C (Stopped s) (Loops l p (s.trace ++ us)) each (record t { fuel = k }) t.memory
+      ((s.trace ++ us) ++ es) refl e
       (gets_turn C l p us (s.trace ++ us) es (Stopped s) (record t { fuel = k }) known (stops_here s l us) r
-      (record { ws = g.ws; few = g.few; i = g.i; n = g.n; bad = g.bad; p_is = g.p_is; buffer = g.buffer; holds = g.holds; words = g.words })
+      (record {
+        ws = g.ws;
+        few = g.few;
+        i = g.i;
+        n = g.n;
+        bad = g.bad;
+        p_is = g.p_is;
+        buffer = g.buffer;
+        holds =
+            g.holds;
+        words = g.words;
+      })
       (more_left (length g.ws) l (is_true (nat_lt (4 * length g.ws) (frame_length l)) is)));
 }
   where
@@ -318,26 +411,45 @@ abbrev receiving : Commands
 receiving =
     call (name.n ∷ name.bad ∷ []) name.lan_read (lit 0x40 ∷ [])
     (cond (var name.bad) done
-    (set name.n (op And (var name.n) (lit 0xFFFF)) (set name.i (lit 0) (repeat (op Ltu (var name.i) (var name.n)) each done)))
+    (set name.n (op And (var name.n) (lit 0xFFFF))
+    (set name.i (lit 0) (repeat (op Ltu (var name.i) (var name.n)) each done)))
     done)
 
-receives : (C : Callee) (p : ℕ) (s : State) → Words C → IsBuffer s.memory p 1520 → s.locals name.p ≡ Some p → Leads C (Stopped s) (Answers s p) receiving s
+receives : (C : Callee) (p : ℕ) (s : State) → Words C → IsBuffer s.memory p 1520 → s.locals name.p ≡ Some p →
+    Leads C (Stopped s) (Answers s p) receiving s
 receives C p s known buffer p_is =
     at_state C (Stopped s) (Answers s p) receiving s s.memory (s.trace ++ []) refl (sym (append-nil s.trace))
     (reads_word s.trace [] known (λ fs b. (fs, refl, length_ahead fs b))
     (λ l us o r. second_of_two {v = 0} refl refl (sets {v = frame_length l} (ap Some (and_mask l 16)) (sets {v = 0} refl
-    (repeats (Loops l p (s.trace ++ us)) (turn C l p us s known r)
-    ([], sym (append-nil (s.trace ++ us)), inl (record { ws = []; few = omega arith; i = refl; n = refl; bad = refl; p_is = p_is; buffer = buffer; holds = λ j long less. absurd (none j long); words = refl }))))))
+    (repeats (Loops l p (s.trace ++ us)) (turn C l p us s known r) (
+      [],
+      sym (append-nil (s.trace ++ us)),
+      inl
+          (record {
+            ws = [];
+            few = omega arith;
+            i = refl;
+            n = refl;
+            bad = refl;
+            p_is = p_is;
+            buffer = buffer;
+            holds =
+                λ j long less. absurd (none j long);
+            words = refl;
+          }),
+    )))))
     (λ l us o f. first_of_two {v = 1} refl refl (ends (ends (l ∷ 1 ∷ [], refl, (us, refl, inr (l, refl, inl f)))))))
   where
     none : (j : ℕ) → j < 0 → ⊥
     none j h = omega arith
 
-shows : (s : State) (p : ℕ) (r : Run) → Does (Answers s p) (λ t. Stopped s t.trace) r → Receives s p (returned (words_of (name.n ∷ name.bad ∷ [])) r)
+shows : (s : State) (p : ℕ) (r : Run) → Does (Answers s p) (λ t. Stopped s t.trace) r →
+    Receives s p (returned (words_of (name.n ∷ name.bad ∷ [])) r)
 shows s p (Goes t) (ws, is, h) = rw is h
 shows s p (Ends end t) h = h
 
-pub shows-receive : (C : Callee) (p : ℕ) (s : State) → Words C → IsBuffer s.memory p 1520 → Receives s p (run_function C receive (p ∷ []) s)
+pub shows-receive : (C : Callee) (p : ℕ) (s : State) → Words C → IsBuffer s.memory p 1520 →
+    Receives s p (run_function C receive (p ∷ []) s)
 shows-receive C p s known buffer =
     let s0 : State = record s { locals = with_locals (name.p ∷ []) (p ∷ []) no_locals } in
     shows s p (run_all C receive.body s0) (receives C p s0 known buffer refl).does
@@ -345,6 +457,8 @@ shows-receive C p s known buffer =
 pub receives_start : BeginsFrame []
 receives_start = length_ahead [] (reads_start 0x40)
 
-pub receive-pieces : (fs : List Func) → HasFirmware fs → (depth p : ℕ) (s : State) → IsBuffer s.memory p 1520 → Receives s p (function_of fs depth name.receive (p ∷ []) s)
+pub receive-pieces : (fs : List Func) → HasFirmware fs →
+    (depth p : ℕ) (s : State) → IsBuffer s.memory p 1520 → Receives s p (function_of fs depth name.receive (p ∷ []) s)
 receive-pieces fs has zero p s buffer = (tt, ([], sym (append-nil s.trace), receives_start))
-receive-pieces fs has (suc depth) p s buffer = rw has.receive (shows-receive (function_of fs depth) p s (words_at fs has.words depth) buffer)
+receive-pieces fs has (suc depth) p s buffer =
+    rw has.receive (shows-receive (function_of fs depth) p s (words_at fs has.words depth) buffer)

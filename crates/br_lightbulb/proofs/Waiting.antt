@@ -74,9 +74,11 @@ abbrev pub Loops : ℕ → List Event → Memory → (Locals → Type 0) → (�
 Loops port T m Keeps Holds t = Waits port T m Keeps t ⊎ Ready port T m Holds t
 
 -- what the loop asks of the commands where the port is ready
-abbrev pub Finishes : Callee → ℕ → List Cmd → List Event → Memory → (Locals → Type 0) → (ℕ → Locals → Type 0) → (State → Type 0) → Type 0
+abbrev pub Finishes : Callee → ℕ → List Cmd → List Event → Memory → (Locals → Type 0) → (ℕ → Locals → Type 0) →
+    (State → Type 0) → Type 0
 Finishes C port cmds T m Keeps Holds S =
-    (w : ℕ) (t : State) (es : List Event) → t.locals name.w ≡ Some w → Keeps t.locals → t.memory ≡ m → t.trace ≡ T ++ es →
+    (w : ℕ) (t : State) (es : List Event) → t.locals name.w ≡ Some w → Keeps t.locals → t.memory ≡ m →
+    t.trace ≡ T ++ es →
     (up_to 999 (busy port) ▸ ready port w) es → Does (Loops port T m Keeps Holds) S (run_all C cmds t)
 
 -- the variables that the loop does not touch
@@ -84,22 +86,28 @@ pub record Steady (Keeps : Locals → Type 0) : Type 0 where
   pub word : (l : Locals) (v : ℕ) → Keeps l → Keeps (with_local name.w v l)
   pub count : (l : Locals) (v : ℕ) → Keeps l → Keeps (with_local name.n v l)
 
-ready_after : (port made w : ℕ) (es : List Event) → suc made ≤ 1000 → IsLow w → times made (busy port) es → (up_to 999 (busy port) ▸ ready port w) (es ++ Read port w ∷ [])
+ready_after : (port made w : ℕ) (es : List Event) → suc made ≤ 1000 → IsLow w → times made (busy port) es →
+    (up_to 999 (busy port) ▸ ready port w) (es ++ Read port w ∷ [])
 ready_after port made w es few low b = (es, Read port w ∷ [], refl, (made, (omega arith, b)), (low, refl))
 
-after_read : (C : Callee) (port : ℕ) (cmds : List Cmd) (T : List Event) (m : Memory) (Keeps : Locals → Type 0) (Holds : ℕ → Locals → Type 0) (S : State → Type 0) →
+after_read : (C : Callee) (port : ℕ) (cmds : List Cmd) (T : List Event) (m : Memory) (Keeps : Locals → Type 0)
+    (Holds : ℕ → Locals → Type 0) (S : State → Type 0) →
     Steady Keeps → Finishes C port cmds T m Keeps Holds S →
-    (left made v : ℕ) (es : List Event) (s : State) → suc left + made ≡ 1000 → s.locals name.n ≡ Some (suc left) → s.locals name.w ≡ Some v → Keeps s.locals → s.memory ≡ m →
+    (left made v : ℕ) (es : List Event) (s : State) → suc left + made ≡ 1000 → s.locals name.n ≡ Some (suc left) →
+    s.locals name.w ≡ Some v → Keeps s.locals → s.memory ≡ m →
     s.trace ≡ T ++ (es ++ Read port v ∷ []) → times made (busy port) es → (IsLow v ⊎ IsHigh v) →
     Does (Loops port T m Keeps Holds) S
-    (run_all C (cmd.Set name.n (Op Sub (Var name.n) (Literal 1)) ∷ cmd.If (Op Lts (Var name.w) (Literal 0)) [] cmds ∷ []) s)
+    (run_all C (cmd.Set name.n (Op Sub (Var name.n) (Literal 1)) ∷ cmd.If (Op Lts (Var name.w) (Literal 0))
+    [] cmds ∷ []) s)
 after_read C port cmds T m Keeps Holds S steady finish left made v es s all n w keeps memory trace b kind =
     let next : ℕ = value_of_op Sub (suc left) 1 in
     let less : next ≡ left = one_less left (omega arith) in
     let t : State = set_to name.n next s in
     let kept : Keeps t.locals = steady.count s.locals next keeps in
-    does-set C name.n (Op Sub (Var name.n) (Literal 1)) (cmd.If (Op Lts (Var name.w) (Literal 0)) [] cmds ∷ []) s next (Loops port T m Keeps Holds) S
-    (value-op s.locals s.memory Sub (Var name.n) (Literal 1) (suc left) 1 (value-var s.locals s.memory name.n (suc left) n) (value-lit s.locals s.memory 1))
+    does-set C name.n (Op Sub (Var name.n) (Literal 1)) (cmd.If (Op Lts (Var name.w) (Literal 0)) [] cmds ∷ []) s next
+    (Loops port T m Keeps Holds) S
+    (value-op s.locals s.memory Sub (Var name.n) (Literal 1) (suc left) 1
+    (value-var s.locals s.memory name.n (suc left) n) (value-lit s.locals s.memory 1))
     (by kind)
   where
     next' : ℕ
@@ -109,14 +117,19 @@ after_read C port cmds T m Keeps Holds S steady finish left made v es s all n w 
     u = set_to name.n next' s
 
     test : value u.locals u.memory (Op Lts (Var name.w) (Literal 0)) ≡ Some (value_of_op Lts v 0)
-    test = value-op u.locals u.memory Lts (Var name.w) (Literal 0) v 0 (value-var u.locals u.memory name.w v w) (value-lit u.locals u.memory 0)
+    test = value-op u.locals u.memory Lts (Var name.w) (Literal 0) v 0 (value-var u.locals u.memory name.w v w)
+        (value-lit u.locals u.memory 0)
 
-    by : (IsLow v ⊎ IsHigh v) → Does (Loops port T m Keeps Holds) S (run_all C (cmd.If (Op Lts (Var name.w) (Literal 0)) [] cmds ∷ []) u)
+    by : (IsLow v ⊎ IsHigh v) → Does (Loops port T m Keeps Holds) S
+        (run_all C (cmd.If (Op Lts (Var name.w) (Literal 0)) [] cmds ∷ []) u)
     by (inl low) =
-        does-second C (Op Lts (Var name.w) (Literal 0)) [] cmds [] u (value_of_op Lts v 0) (Loops port T m Keeps Holds) S test (ap (λ q. q == 0) (low_test v low))
-        (finish v u (es ++ Read port v ∷ []) w (steady.count s.locals next' keeps) memory trace (ready_after port made v es (omega arith) low b))
+        does-second C (Op Lts (Var name.w) (Literal 0)) [] cmds [] u (value_of_op Lts v 0) (Loops port T m Keeps Holds)
+        S test (ap (λ q. q == 0) (low_test v low))
+        (finish v u (es ++ Read port v ∷ []) w (steady.count s.locals next' keeps) memory trace
+        (ready_after port made v es (omega arith) low b))
     by (inr high) =
-        does-first C (Op Lts (Var name.w) (Literal 0)) [] cmds [] u (value_of_op Lts v 0) (Loops port T m Keeps Holds) S test (ap (λ q. q == 0) (high_test v high))
+        does-first C (Op Lts (Var name.w) (Literal 0)) [] cmds [] u (value_of_op Lts v 0) (Loops port T m Keeps Holds)
+        S test (ap (λ q. q == 0) (high_test v high))
         (inl (record {
           left = left;
           made = suc made;
@@ -133,13 +146,15 @@ low_or_high : (w : ℕ) → IsLow w ⊎ IsHigh w
 low_or_high w = grind arith
 
 -- a turn of the loop
-turn : (C : Callee) (port : ℕ) (cmds : List Cmd) (T : List Event) (m : Memory) (Keeps : Locals → Type 0) (Holds : ℕ → Locals → Type 0) (S Q : State → Type 0) →
+turn : (C : Callee) (port : ℕ) (cmds : List Cmd) (T : List Event) (m : Memory) (Keeps : Locals → Type 0)
+    (Holds : ℕ → Locals → Type 0) (S Q : State → Type 0) →
     is_device_word port ≡ true → Steady Keeps → Finishes C port cmds T m Keeps Holds S →
     ((t : State) → Loops port T m Keeps Holds t → S t) →
     ((t : State) → Loops port T m Keeps Holds t → t.locals name.n ≡ Some 0 → Q t) →
     (s : State) → Loops port T m Keeps Holds s →
     Turn (λ u. value u.locals u.memory (Var name.n))
-    (run_all C (read name.w port ∷ cmd.Set name.n (Op Sub (Var name.n) (Literal 1)) ∷ cmd.If (Op Lts (Var name.w) (Literal 0)) [] cmds ∷ []))
+    (run_all C (read name.w port ∷ cmd.Set name.n (Op Sub (Var name.n) (Literal 1)) ∷ cmd.If
+    (Op Lts (Var name.w) (Literal 0)) [] cmds ∷ []))
     (Loops port T m Keeps Holds) Q S s
 turn C port cmds T m Keeps Holds S Q device steady finish stops over s (inr r) = record {
   word = 0;
@@ -161,22 +176,40 @@ turn C port cmds T m Keeps Holds S Q device steady finish stops over s (inl i) =
 
     goes : (left : ℕ) → left + i.made ≡ 1000 → s.locals name.n ≡ Some left → (left == 0) ≡ false → (k : ℕ) →
         Does (Loops port T m Keeps Holds) S
-        (run_all C (read name.w port ∷ cmd.Set name.n (Op Sub (Var name.n) (Literal 1)) ∷ cmd.If (Op Lts (Var name.w) (Literal 0)) [] cmds ∷ []) (record s { fuel = k }))
+        (run_all C (read name.w port ∷ cmd.Set name.n (Op Sub (Var name.n) (Literal 1)) ∷ cmd.If
+        (Op Lts (Var name.w) (Literal 0)) [] cmds ∷ []) (record s { fuel = k }))
     goes zero all n is k = cc
     goes (suc left) all n is k =
-        does-read C name.w port (cmd.Set name.n (Op Sub (Var name.n) (Literal 1)) ∷ cmd.If (Op Lts (Var name.w) (Literal 0)) [] cmds ∷ []) (record s { fuel = k })
-        (Loops port T m Keeps Holds) S device (stops (record s { fuel = k }) (inl (record { left = i.left; made = i.made; all = i.all; n = i.n; keeps = i.keeps; memory = i.memory; events = i.events; trace = i.trace; busy = i.busy })))
+        does-read C name.w port (cmd.Set name.n (Op Sub (Var name.n) (Literal 1)) ∷ cmd.If
+        (Op Lts (Var name.w) (Literal 0)) [] cmds ∷ []) (record s { fuel = k })
+        (Loops port T m Keeps Holds) S device
+        (stops (record s { fuel = k }) (inl
+        (record {
+          left = i.left;
+          made = i.made;
+          all = i.all;
+          n = i.n;
+          keeps = i.keeps;
+          memory = i.memory;
+          events =
+              i.events;
+          trace = i.trace;
+          busy = i.busy;
+        })))
         (λ v vs. after_read C port cmds T m Keeps Holds S steady finish left i.made v i.events
-        (happens (Read port v) (record s { fuel = k; locals = with_local name.w v s.locals; answers = vs })) all n refl (steady.word s.locals v i.keeps) i.memory
+        (happens (Read port v) (record s { fuel = k; locals = with_local name.w v s.locals; answers = vs })) all n refl
+        (steady.word s.locals v i.keeps) i.memory
         (ap (λ q. q ++ Read port v ∷ []) i.trace ∙ append_assoc T i.events (Read port v ∷ [])) i.busy (low_or_high v))
 
 -- the whole loop
-pub does-wait : (C : Callee) (port : ℕ) (cmds cs : List Cmd) (T : List Event) (m : Memory) (Keeps : Locals → Type 0) (Holds : ℕ → Locals → Type 0) (S Q : State → Type 0) →
+pub does-wait : (C : Callee) (port : ℕ) (cmds cs : List Cmd) (T : List Event) (m : Memory) (Keeps : Locals → Type 0)
+    (Holds : ℕ → Locals → Type 0) (S Q : State → Type 0) →
     is_device_word port ≡ true → Steady Keeps → Finishes C port cmds T m Keeps Holds S →
     ((t : State) → Loops port T m Keeps Holds t → S t) →
     ((t : State) → Loops port T m Keeps Holds t → t.locals name.n ≡ Some 0 → Does Q S (run_all C cs t)) →
     (s : State) → Waits port T m Keeps s → Does Q S (run_all C (wait_loop port cmds ∷ cs) s)
 does-wait C port cmds cs T m Keeps Holds S Q device steady finish stops over s i =
-    does-while C (Var name.n) (read name.w port ∷ cmd.Set name.n (Op Sub (Var name.n) (Literal 1)) ∷ cmd.If (Op Lts (Var name.w) (Literal 0)) [] cmds ∷ []) cs s
+    does-while C (Var name.n) (read name.w port ∷ cmd.Set name.n (Op Sub (Var name.n) (Literal 1)) ∷ cmd.If
+    (Op Lts (Var name.w) (Literal 0)) [] cmds ∷ []) cs s
     (Loops port T m Keeps Holds) Q S
     (turn C port cmds T m Keeps Holds S (λ t. Does Q S (run_all C cs t)) device steady finish stops over) (inl i)
