@@ -248,8 +248,7 @@ looks C w left made U es fs m S l o all t count bad r = second_of_two {v = 0} re
             made = suc made;
             all = omega arith;
             t = count;
-            bad =
-                bad;
+            bad = bad;
             missed = times_more made missed es fs t (w, (differs w other, r));
           }),
         ))))

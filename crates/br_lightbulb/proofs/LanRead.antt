@@ -167,8 +167,7 @@ got_turn C a U es m S t known may g less =
         few = less;
         bad = refl;
         i = refl;
-        v =
-            refl;
+        v = refl;
         failed = f;
       }),
     ))))))
@@ -392,7 +391,6 @@ shows-read C a s known =
             bad = v.bad_is;
             i = v.i;
             v = v.v_is;
-            failed =
-                f;
+            failed = f;
           }),
         )))

@@ -80,8 +80,7 @@ sends_turn C a v U es m S t known may g less =
         received = g.received ++ r ∷ [];
         few = less;
         bad = refl;
-        i =
-            refl;
+        i = refl;
         word = g.word;
         sent = sent;
       }),

@@ -237,8 +237,7 @@ pub buffers : {C : Callee} {S : List Event → Type 0}
     (record s {
       locals = with_local x c.addr s.locals;
       memory = with_bytes s.memory c.addr c.bytes;
-      choices =
-          chosen;
+      choices = chosen;
     })) →
     Leads C S Q (buffer x n body cs) s
 buffers {C} {S} {Q} {x} {n} {body} {cs} {s} stops goes = record {
@@ -259,8 +258,7 @@ buffers {C} {S} {Q} {x} {n} {body} {cs} {s} stops goes = record {
         (record s {
           locals = with_local x c.addr s.locals;
           memory = with_bytes s.memory c.addr c.bytes;
-          choices =
-              chosen;
+          choices = chosen;
         })) →
         Does R (λ t. S t.trace) (with_buffer (with_local x) n (run_all C (trees body)) (record s { choices = choices }))
     by [] stops goes = (tt, stops)

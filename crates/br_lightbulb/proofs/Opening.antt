@@ -49,8 +49,7 @@ pub opens : {C : Callee} {S : List Event → Type 0}
       memory = m;
       trace = U ++ [];
       answers = answers;
-      choices =
-          choices;
+      choices = choices;
       fuel = fuel;
     })
 opens {C} {S} {Q} {c} {cs} {l} {m} {answers} {choices} {fuel} a v W U known may a_is v_is goes fails =

@@ -1,4 +1,5 @@
--- The firmware's text is that of its trees: each function with the offsets of its words in the text.
+-- The firmware's text is that of its trees. The functions stand here as they are written, and the numbers
+-- are offsets in the text: of each list, then of its first word, and of each name and number before it.
 use Rattle.std.proofs.Common.{◌≡◌, ◌≤◌, List, [], ◌∷◌, Ok, map, codes, refl, sym, ap, subst, ◌∙◌, arith}
 use Rattle.br_words.specs.declared.operation.BinOp.TheVariants as o
 use Rattle.br_sexpr.specs.Reads.{Reads}

@@ -17,4 +17,5 @@ IsFirmware funcs = IsProgramOf firmware_text funcs
 
 -- the functions of the firmware, whatever their offsets are
 abbrev pub IsFirmwareUpToOffsets : List Func → Type 0
-IsFirmwareUpToOffsets funcs = (exact : List Func) × IsFirmware exact × IsEqualUpToOffsets funcs exact
+IsFirmwareUpToOffsets funcs =
+    (exact : List Func) × IsFirmware exact × IsEqualUpToOffsets funcs exact

@@ -24,7 +24,9 @@ receive = record {
       ∷ While (Op Ltu (Var name.i) (Var name.n))
       (Call 0 (name.w ∷ name.bad ∷ []) name.lan_read (Literal 0 ∷ [])
       ∷ If (Var name.bad) (Set name.n (Literal 0) ∷ [])
-      (If (Op Ltu (Var name.i) (Literal 1520)) (Store size.Four (Op Add (Var name.p) (Var name.i)) (Var name.w) ∷ []) []
+      (If (Op Ltu (Var name.i) (Literal 1520))
+      (Store size.Four (Op Add (Var name.p) (Var name.i)) (Var name.w) ∷ [])
+      []
       ∷ Set name.i (Op Add (Var name.i) (Literal 4))
       ∷ [])
       ∷ [])

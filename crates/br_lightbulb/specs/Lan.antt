@@ -30,7 +30,8 @@ transfer command each =
     ∷ unless_bad (exchange (Op Sru (Var name.a) (Literal 8)) ∷ [])
     ∷ unless_bad (exchange (Op And (Var name.a) (Literal 255)) ∷ [])
     ∷ Set name.i (Literal 0)
-    ∷ While (Op Ltu (Var name.i) (Literal 4)) (unless_bad each ∷ Set name.i (Op Add (Var name.i) (Literal 1)) ∷ [])
+    ∷ While (Op Ltu (Var name.i) (Literal 4))
+    (unless_bad each ∷ Set name.i (Op Add (Var name.i) (Literal 1)) ∷ [])
     ∷ write 0x10024018 (Literal 0)
     ∷ []
 
@@ -42,7 +43,10 @@ lan_read = record {
   results = name.v ∷ name.bad ∷ [];
   body =
       Set name.v (Literal 0)
-      ∷ transfer 3 (exchange (Literal 0) ∷ Set name.v (Op Or (Var name.v) (Op Slu (Var name.x) shift)) ∷ []);
+      ∷ transfer 3
+      (exchange (Literal 0)
+      ∷ Set name.v (Op Or (Var name.v) (Op Slu (Var name.x) shift))
+      ∷ []);
 }
 
 abbrev pub lan_write : Func

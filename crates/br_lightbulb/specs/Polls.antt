@@ -25,10 +25,13 @@ boot = record {
       (Set name.t (Op Sub (Var name.t) (Literal 1))
       ∷ Call 0 (name.w ∷ name.f ∷ []) name.lan_read (Literal 0x64 ∷ [])
       ∷ If (Var name.f) (Set name.t (Literal 0) ∷ [])
-      (If (Op Eq (Var name.w) (Literal 0x87654321)) (Set name.bad (Literal 0) ∷ Set name.t (Literal 0) ∷ []) []
+      (If (Op Eq (Var name.w) (Literal 0x87654321))
+      (Set name.bad (Literal 0) ∷ Set name.t (Literal 0) ∷ [])
+      []
       ∷ [])
       ∷ [])
-      ∷ If (Var name.bad) [] (Call 0 (name.bad ∷ []) name.lan_write (Literal 0x74 ∷ Literal 1 ∷ []) ∷ [])
+      ∷ If (Var name.bad) []
+      (Call 0 (name.bad ∷ []) name.lan_write (Literal 0x74 ∷ Literal 1 ∷ []) ∷ [])
       ∷ [];
 }
 

@@ -1,4 +1,5 @@
--- What calls of the firmware's functions show: a piece of the trace language, or the first part of one.
+-- What calls of the firmware's functions show: a piece of the trace language, or the first part of
+-- one.
 use Rattle.std.specs.Prelude.{◌≡◌, ◌≢◌, ◌⊎◌, ⊤, ℕ, ◌+◌, ◌^◌, ◌<◌, ◌≤◌, true, false, List, [], ◌∷◌, ◌++◌, length, slice_index, Some}
 use Rattle.std.specs.FinMap as map
 use Rattle.br_bytes.specs.declared.run.Event.{Event}
@@ -35,8 +36,10 @@ Begins piece es = (ws : List ℕ) × (rest : List Event) × piece ws (es ++ rest
 -- From a state, a call adds the events of the piece to the trace and leaves memory as it was; or it
 -- stops, is not undefined, and has added the first events of one.
 abbrev pub ShowsPiece : State → Piece → Returned → Type 0
-ShowsPiece s piece (Returns ws t) = (es : List Event) × (t.trace ≡ s.trace ++ es) × (t.memory ≡ s.memory) × piece ws es
-ShowsPiece s piece (Stops end t) = IsDefined end × ((es : List Event) × (t.trace ≡ s.trace ++ es) × Begins piece es)
+ShowsPiece s piece (Returns ws t) =
+    (es : List Event) × (t.trace ≡ s.trace ++ es) × (t.memory ≡ s.memory) × piece ws es
+ShowsPiece s piece (Stops end t) =
+    IsDefined end × ((es : List Event) × (t.trace ≡ s.trace ++ es) × Begins piece es)
 
 -- a byte is sent and 0 answered, or 1 where the port stayed busy
 abbrev pub put_piece : ℕ → Piece
@@ -48,12 +51,15 @@ get_piece ws es = ((r : ℕ) × (ws ≡ r ∷ 0 ∷ []) × spi_get r es) ⊎ ((w
 
 -- a byte is sent, and one is received and answered, and 0; or 0 and 1 where a port stayed busy
 abbrev pub exchange_piece : ℕ → Piece
-exchange_piece b ws es = ((r : ℕ) × (ws ≡ r ∷ 0 ∷ []) × exchange b r es) ⊎ ((ws ≡ 0 ∷ 1 ∷ []) × failed_exchange b es)
+exchange_piece b ws es =
+    ((r : ℕ) × (ws ≡ r ∷ 0 ∷ []) × exchange b r es)
+    ⊎ ((ws ≡ 0 ∷ 1 ∷ []) × failed_exchange b es)
 
 -- a word is read and answered, and 0; or some word and 1 where a port stayed busy
 abbrev pub read_piece : ℕ → Piece
 read_piece a ws es =
-    ((v : ℕ) × (ws ≡ v ∷ 0 ∷ []) × read_word a v es) ⊎ ((v : ℕ) × (ws ≡ v ∷ 1 ∷ []) × failed_read a es)
+    ((v : ℕ) × (ws ≡ v ∷ 0 ∷ []) × read_word a v es)
+    ⊎ ((v : ℕ) × (ws ≡ v ∷ 1 ∷ []) × failed_read a es)
 
 -- a word is written and 0 answered, or 1 where a port stayed busy
 abbrev pub write_piece : ℕ → ℕ → Piece
@@ -72,31 +78,35 @@ pub record IsBuffer (m : Memory) (p n : ℕ) : Type 0 where
 
 -- the bytes stand from p on, but for those that a buffer of 1,520 bytes has no room for
 abbrev pub Holds : Memory → ℕ → List ℕ → Type 0
-Holds m p bytes = (j : ℕ) → j < length bytes → j < 1520 → map.get m (p + j) ≡ Some (slice_index bytes j)
+Holds m p bytes =
+    (j : ℕ) → j < length bytes → j < 1520 → map.get m (p + j) ≡ Some (slice_index bytes j)
 
 -- the length and the words of a frame are read
 abbrev pub received : List ℕ → Language
 received bytes =
     some λ (l : ℕ). read_word 0x40 l ▸ some λ (ws : List ℕ).
-    given ((length ws ≡ words_for (frame_length l)) × (bytes ≡ first_bytes (frame_length l) ws)) (frame_words ws)
+    given ((length ws ≡ words_for (frame_length l)) × (bytes ≡ first_bytes (frame_length l) ws))
+    (frame_words ws)
 
 -- the length or one of the words is not
 abbrev pub failed_receive : Language
 failed_receive =
     either (failed_read 0x40)
-    (some λ (l : ℕ). read_word 0x40 l ▸ some λ (ws : List ℕ). given (length ws < words_for (frame_length l)) (frame_words ws ▸ failed_read 0))
+    (some λ (l : ℕ). read_word 0x40 l ▸ some λ (ws : List ℕ).
+    given (length ws < words_for (frame_length l)) (frame_words ws ▸ failed_read 0))
 
 -- these events begin those of a frame that is read, or is not
 abbrev pub BeginsFrame : List Event → Type 0
 BeginsFrame es = (rest : List Event) × either (some received) failed_receive (es ++ rest)
 
--- From a state, a call of `receive` reads a frame into the buffer and answers its length, and 0; or it
--- fails and answers 1 as the second word; or it stops, is not undefined, and has added the first events
--- of one of these.
+-- From a state, a call of `receive` reads a frame into the buffer and answers its length, and 0; or
+-- it fails and answers 1 as the second word; or it stops, is not undefined, and has added the first
+-- events of one of these.
 abbrev pub Receives : State → ℕ → Returned → Type 0
 Receives s p (Returns ws t) =
     (es : List Event) × (t.trace ≡ s.trace ++ es)
-    × (((bytes : List ℕ) × (ws ≡ length bytes ∷ 0 ∷ []) × Holds t.memory p bytes × received bytes es)
+    × (((bytes : List ℕ)
+    × (ws ≡ length bytes ∷ 0 ∷ []) × Holds t.memory p bytes × received bytes es)
     ⊎ ((n : ℕ) × (ws ≡ n ∷ 1 ∷ []) × failed_receive es))
 Receives s p (Stops end t) =
     IsDefined end × ((es : List Event) × (t.trace ≡ s.trace ++ es) × BeginsFrame es)
@@ -104,14 +114,17 @@ Receives s p (Stops end t) =
 -- the light is set as an accepted frame asks, and nothing is done for another
 abbrev pub handle_piece : List ℕ → Piece
 handle_piece bytes ws es =
-    (ws ≡ []) × (given (is_accepted bytes ≡ true) (set_light (light_of bytes)) es ⊎ given (is_accepted bytes ≡ false) nothing es)
+    (ws ≡ [])
+    × (given (is_accepted bytes ≡ true) (set_light (light_of bytes)) es
+    ⊎ given (is_accepted bytes ≡ false) nothing es)
 
 -- ---- polls
 
 -- the same as ShowsPiece, where memory may change
 abbrev pub ShowsEvents : State → Piece → Returned → Type 0
 ShowsEvents s piece (Returns ws t) = (es : List Event) × (t.trace ≡ s.trace ++ es) × piece ws es
-ShowsEvents s piece (Stops end t) = IsDefined end × ((es : List Event) × (t.trace ≡ s.trace ++ es) × Begins piece es)
+ShowsEvents s piece (Stops end t) =
+    IsDefined end × ((es : List Event) × (t.trace ≡ s.trace ++ es) × Begins piece es)
 
 -- one look at the chip, with any answer
 abbrev pub poll_piece : Piece

@@ -50,7 +50,8 @@ spi_get = record {
       ∷ Set name.bad (Literal 1)
       ∷ Set name.n (Literal 1000)
       ∷ wait_loop 0x1002404C
-      (Set name.bad (Literal 0) ∷ Set name.b (Op And (Var name.w) (Literal 255)) ∷ Set name.n (Literal 0) ∷ [])
+      (Set name.bad (Literal 0) ∷ Set name.b (Op And (Var name.w) (Literal 255)) ∷ Set name.n
+      (Literal 0) ∷ [])
       ∷ [];
 }
 

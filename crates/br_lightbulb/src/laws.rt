@@ -31,9 +31,10 @@ ghost use Rattle.br_lightbulb.specs.Shows.{
   StaysGood,
 };
 
-/// The functions for bytes over SPI: whatever the port answers, with any fuel and any depth of calls,
-/// a call that returns has added one of its pieces of the trace language to the trace, and 0 or 1 tells
-/// which; one that stops has added the first events of one. None is undefined, and none changes memory.
+/// The functions for bytes over SPI: whatever the port answers, with any fuel and any depth of
+/// calls, a call that returns has added one of its pieces of the trace language to the trace, and 0
+/// or 1 tells which; one that stops has added the first events of one. None is undefined, and none
+/// changes memory.
 pub fn bytes_show_pieces()
     ensures put { (fs : List Func) → HasSpi fs → (depth b : ℕ) (s : State) →
         ShowsPiece s (put_piece b) (function_of fs depth name.spi_put (b ∷ []) s) }
@@ -43,8 +44,8 @@ pub fn bytes_show_pieces()
         ShowsPiece s (exchange_piece b) (function_of fs depth name.spi_xchg (b ∷ []) s) }
 {}
 
-/// The functions for words of the chip, in the same way: a call selects the chip, exchanges the seven
-/// bytes of a read or a write until one fails, and releases it.
+/// The functions for words of the chip, in the same way: a call selects the chip, exchanges the
+/// seven bytes of a read or a write until one fails, and releases it.
 pub fn words_show_pieces()
     ensures read { (fs : List Func) → HasLan fs → (depth a : ℕ) (s : State) →
         ShowsPiece s (read_piece a) (function_of fs depth name.lan_read (a ∷ []) s) }
@@ -60,14 +61,17 @@ pub fn boot_shows_piece()
 {}
 
 /// The functions for frames. With a buffer of 1,520 bytes at hand no load or store of theirs is
-/// undefined: `receive` answers the length of a frame, whose bytes then stand in the buffer as far as
-/// it has room, and `handle` sets the light as an accepted frame asks, and does nothing for another.
+/// undefined: `receive` answers the length of a frame, whose bytes then stand in the buffer as far
+/// as it has room, and `handle` sets the light as an accepted frame asks, and does nothing for
+/// another.
 pub fn frames_show_pieces()
-    ensures receive { (fs : List Func) → HasFirmware fs → (depth p : ℕ) (s : State) → IsBuffer s.memory p 1520 →
-        Receives s p (function_of fs depth name.receive (p ∷ []) s) }
-    ensures handle { (fs : List Func) → HasFirmware fs → (depth : ℕ) (bytes : List ℕ) (p : ℕ) (s : State) →
+    ensures receive { (fs : List Func) → HasFirmware fs → (depth p : ℕ) (s : State) →
+        IsBuffer s.memory p 1520 → Receives s p (function_of fs depth name.receive (p ∷ []) s) }
+    ensures handle { (fs : List Func) → HasFirmware fs →
+        (depth : ℕ) (bytes : List ℕ) (p : ℕ) (s : State) →
         p + 1520 ≤ 2 ^ 32 → Holds s.memory p bytes →
-        ShowsPiece s (handle_piece bytes) (function_of fs depth name.handle (p ∷ length bytes ∷ []) s) }
+        ShowsPiece s (handle_piece bytes)
+        (function_of fs depth name.handle (p ∷ length bytes ∷ []) s) }
 {}
 
 /// One look at the chip: no frame waits, or one is received and handled, or a read fails.
@@ -76,17 +80,20 @@ pub fn poll_shows_piece()
         ShowsEvents s poll_piece (function_of fs depth name.poll [] s) }
 {}
 
-/// The firmware is these trees: each program that its text stands for is equal to them up to offsets,
-/// and has a function `main`.
+/// The firmware is these trees: each program that its text stands for is equal to them up to
+/// offsets, and has a function `main`.
 pub fn text_stands_for_trees()
     ensures trees { (fs : List Func) → IsFirmwareUpToOffsets fs → IsEqualUpToOffsets fs firmware }
-    ensures main { (fs : List Func) → IsFirmwareUpToOffsets fs → (f : Func) × (function_named fs name.main ≡ Some f) }
+    ensures main { (fs : List Func) → IsFirmwareUpToOffsets fs →
+        (f : Func) × (function_named fs name.main ≡ Some f) }
 {}
 
-/// The firmware from its start on: with any memory, whatever the devices answer, wherever its buffers
-/// are placed, and with any fuel, no run of `main` is undefined, and a member of the trace language
-/// begins with its events.
+/// The firmware from its start on: with any memory, whatever the devices answer, wherever its
+/// buffers are placed, and with any fuel, no run of `main` is undefined, and a member of the trace
+/// language begins with its events.
 pub fn firmware_stays_good()
-    ensures { (fs : List Func) (f : Func) → IsFirmwareUpToOffsets fs → function_named fs name.main ≡ Some f →
-        (m : Memory) (answers : List ℕ) (choices : List Choice) (fuel : ℕ) → StaysGood (call fs f [] m answers choices fuel) }
+    ensures { (fs : List Func) (f : Func) → IsFirmwareUpToOffsets fs →
+        function_named fs name.main ≡ Some f →
+        (m : Memory) (answers : List ℕ) (choices : List Choice) (fuel : ℕ) →
+        StaysGood (call fs f [] m answers choices fuel) }
 {}
