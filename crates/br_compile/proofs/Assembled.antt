@@ -48,6 +48,6 @@ pub whole_parts : (code : Vec ℕ Global) (o : Option (List Ins)) → IsWholeCod
 whole_parts code (Some body) is = (body, refl, is)
 whole_parts code None is = absurd is
 
--- what stands behind an empty list
+-- what stands after an empty list
 pub alone : (empty entries : List Entry) (e : Entry) → empty ≡ [] → entries ≡ empty ++ e ∷ [] → entries ≡ e ∷ []
 alone empty entries e none is = is ∙ ap (λ x. x ++ e ∷ []) none

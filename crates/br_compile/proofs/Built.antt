@@ -14,7 +14,7 @@ use Rattle.br_syntax.specs.declared.program.Expr.TheOpen.{Expr-F}
 use Rattle.br_syntax.specs.declared.program.Expr.TheFolds.{fold-roll-Expr}
 use Rattle.br_syntax.specs.Word.{expr_word}
 use Rattle.br_syntax.specs.Shaped.{Shaped, both, lowest, ◌<$>◌}
-use Rattle.br_syntax.specs.declared.fault.ShapeFault.TheVariants.{TooMany}
+use Rattle.br_syntax.specs.declared.faults.ShapeFault.TheVariants.{TooMany}
 use Rattle.br_syntax.specs.Denotes.{word_of, offset_of, argument_at, arguments_from, WithExpr, expression, expression_in, expression_of, of_three, operation_of, with_expression}
 use Rattle.br_rv32im.specs.declared.instruction.Ins.{Ins}
 use Rattle.br_rv32im.specs.declared.instruction.Ins.TheVariants.{Reg}

@@ -14,7 +14,7 @@ use Rattle.br_syntax.specs.declared.program.Cmd.TheOpen.{Cmd-F}
 use Rattle.br_syntax.specs.declared.program.Cmd.TheFolds.{fold_out-Cmd}
 use Rattle.br_syntax.specs.declared.program.Func.{Func}
 use Rattle.br_syntax.specs.Word.{cmd_word}
-use Rattle.br_syntax.specs.declared.fault.ShapeFault.TheVariants.{BadForm}
+use Rattle.br_syntax.specs.declared.faults.ShapeFault.TheVariants.{BadForm}
 use Rattle.br_syntax.specs.Shaped.{both}
 use Rattle.br_syntax.specs.Denotes.{word_of, word_in, offset_of, name, name_in, names, names_in, arguments_from, target_of, interact_of, form_of, command_of, Places, WithPlaces, places, places_in, with_places, command, commands, function_of, function_list, function_in, function, functions}
 use Rattle.br_syntax.specs.NameFaults as names

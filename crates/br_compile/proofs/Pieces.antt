@@ -88,7 +88,7 @@ pub record Table : Type 0 where
   pub small : (i : Ins) → Fits i → word_of i < 2 ^ 32
   pub decoded : (i : Ins) → Fits i → row_of (word_of i) ≡ Some i
 
--- the address behind word j
+-- the address after word j
 pub next_word : (code : List ℕ) (j pc : ℕ) → length code ≤ most_words Two → j < length code → pc ≡ code_base Two + 4 * j → (pc + 4) % 2 ^ 32 ≡ code_base Two + 4 * (j + 1)
 next_word code j pc few inside is = omega arith
 

@@ -1,4 +1,4 @@
--- Code that is put behind code in several pieces.
+-- Code that is put after code in several pieces.
 use Rattle.std.proofs.Common.{◌≡◌, ℕ, Bool, true, List, [], ◌∷◌, ◌++◌, map, Option, Some, None, refl, sym, ap, subst, ◌∙◌, append_assoc}
 use Rattle.std.proofs.lemmas.List.{map-append, append-nil}
 use Rattle.br_rv32im.specs.declared.instruction.Ins.{Ins}
@@ -52,7 +52,7 @@ puts_sum e a b o old c1 c2 c3 c4 c5 built1 built2 is add yes1 yes2 e1 e2 e3 e4 e
 
 -- ---- commands in turn
 
--- the commands before the rest were put behind the code
+-- the commands before the rest were put after the code
 pub record PutSoFar (old now : List ℕ) (rest all : List Cmd) : Type 0 where
   pub instructions : List Ins
   pub put : now ≡ old ++ map word_of instructions

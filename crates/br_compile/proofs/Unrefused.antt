@@ -5,10 +5,10 @@ use Rattle.br_sexpr.specs.declared.tree.Tree.{Tree}
 use Rattle.br_sexpr.specs.declared.tree.TextFault.{TextFault}
 use Rattle.br_sexpr.specs.Reads.{Reads, HasFault}
 use Rattle.br_syntax.specs.declared.program.Func.{Func}
-use Rattle.br_syntax.specs.declared.fault.ShapeFault.{ShapeFault}
+use Rattle.br_syntax.specs.declared.faults.ShapeFault.{ShapeFault}
 use Rattle.br_syntax.specs.Denotes.{functions, Denotes, IsShapeFault}
-use Rattle.br_syntax.specs.Law.{HasMeaning}
-use Rattle.br_measure.specs.declared.fault.NameFault.{NameFault}
+use Rattle.br_syntax.specs.Laws.{HasMeaning}
+use Rattle.br_measure.specs.declared.faults.NameFault.{NameFault}
 use Rattle.br_measure.specs.Faults.{IsFault, IsSound}
 use Rattle.br_compile.specs.declared.refusal.Refusal.{Refusal}
 use Rattle.br_compile.specs.declared.refusal.Refusal.TheVariants as refusal

@@ -208,13 +208,13 @@ commands_bulk-cons c cs = sum_by-cons (λ x. x) (command_bulk c) (map command_bu
 abbrev pub CommandsAgree : List Cmd → List Ins → Type 0
 CommandsAgree cs is = (call : Callee) (s : State) → Agrees (run_all call cs s) s is (commands_bulk cs)
 
--- both a command and those behind it have code where the whole has
+-- both a command and those after it have code where the whole has
 in_turn_parts : (o rest : Option (List Ins)) (is : List Ins) → in_turn_code o rest ≡ Some is → (is1 : List Ins) × (is2 : List Ins) × (o ≡ Some is1) × (rest ≡ Some is2) × (is1 ++ is2 ≡ is)
 in_turn_parts (Some is1) (Some is2) is code = (is1, is2, refl, refl, cc)
 in_turn_parts (Some is1) None is code = absurd (cc)
 in_turn_parts None rest is code = absurd (cc)
 
--- a command, and those behind it
+-- a command, and those after it
 one_more : (c : Cmd) (cs : List Cmd) (is1 is2 : List Ins) (call : Callee) (s : State) → ((t : State) → Agrees (run_all call cs t) t is2 (commands_bulk cs)) → Agrees (run call c s) s is1 (command_bulk c)
     → Agrees (run_all call (c ∷ cs) s) s (is1 ++ is2) (commands_bulk (c ∷ cs))
 one_more c cs is1 is2 call s rest (inl (t, ends)) = inl (t, ap (λ r. then_do r (run_all call cs)) ends)

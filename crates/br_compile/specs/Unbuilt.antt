@@ -1,5 +1,5 @@
 -- Where the first form stands that the compiler does not build yet, in the order of the text: a function
--- behind the first, a function with arguments or results, a command that is no write to a device, or an
+-- after the first, a function with arguments or results, a command that is no write to a device, or an
 -- expression that is neither a number nor a sum. The trees are those of an accepted program.
 use Rattle.std.specs.Prelude.{ℕ, ◌^◌, nat_lt, Bool, true, false, ◌&&◌, List, [], ◌∷◌, Option, Some, None, if◌then◌else◌, codes}
 use Rattle.std.specs.Option.{option_or}

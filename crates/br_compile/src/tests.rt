@@ -1,5 +1,8 @@
 use crate::{Refusal, compile};
 use br_base::OrMemory;
+use br_measure::NameFault;
+use br_sexpr::TextFault;
+use br_syntax::ShapeFault;
 use br_words::Layout;
 use std::alloc::Global;
 use std::test::Fail;
@@ -82,4 +85,33 @@ fn forms_that_are_not_built(rt: HostRuntime) {
     for (text, at) in cases {
         assert_eq!(rt; not_yet(rt.alloc(), text), Some(at), "{text:?}");
     }
+}
+
+#[test]
+fn refusals_say_why(rt: HostRuntime) -> Result<(), Fail> {
+    for (refusal, message) in [
+        (
+            Refusal::InputTooLong,
+            "the text has more than 1,048,576 bytes",
+        ),
+        (
+            Refusal::Text(TextFault::BadByte(1)),
+            "a byte that begins no token, at offset 1",
+        ),
+        (
+            Refusal::Shape(ShapeFault::BadForm(2)),
+            "no such form, at offset 2",
+        ),
+        (
+            Refusal::Names(NameFault::Recursion(3)),
+            "function 3 has a path of calls to itself",
+        ),
+        (
+            Refusal::NotYet(4),
+            "a form that is not built yet, at offset 4",
+        ),
+    ] {
+        assert_eq!(rt; format!(in rt.alloc(); "{refusal}")?.as_str(), message);
+    }
+    Ok(())
 }

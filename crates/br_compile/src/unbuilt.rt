@@ -6,7 +6,7 @@ ghost use Rattle.br_compile.specs.Unbuilt.{first_among, with_unbuilt, expression
 
 use br_sexpr::Tree;
 
-/// The offset of the first tree that is not built yet, in the order of the text: a function behind
+/// The offset of the first tree that is not built yet, in the order of the text: a function after
 /// the first, a function with arguments or results, a command that is no write to a device, or an
 /// expression that is neither a number nor a sum. The trees are those of an accepted program.
 pub(crate) fn first_unbuilt(trees: &[Tree]) -> Option<u32>

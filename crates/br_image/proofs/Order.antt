@@ -1,4 +1,4 @@
--- Which lines may stand behind which.
+-- Which lines may stand after which.
 use Rattle.std.proofs.Common.{◌≡◌, ◌≢◌, ◌⊎◌, inl, inr, ℕ, ◌+◌, ◌^◌, ◌<◌, ◌≤◌, List, [], ◌∷◌, ◌++◌, refl, ap, sym, ◌∙◌, ◌-◌, arith, append_assoc, length-append, length, drop, take, get_or}
 use Rattle.std.proofs.Common.{zero, suc, append-nil}
 use Rattle.std.proofs.lemmas.Bool.{cases_lt}
@@ -39,7 +39,7 @@ line_behind text bytes more content at taken same =
 
 -- ---- what an image's lines begin with
 
--- behind the entries comes an entry or the number of words
+-- after the entries comes an entry or the number of words
 after_entries : (es fs : List Entry) (n : ℕ) (rest more : List Line) (l : Line) → map Function es ++ l ∷ more ≡ map Function fs ++ Count n ∷ rest
     → ((e : Entry) × (gs : List Entry) × (l ≡ Function e) × (fs ≡ es ++ e ∷ gs)) ⊎ (l ≡ Count n)
 after_entries [] [] n rest more l e = inr cc
@@ -62,7 +62,7 @@ after_count (x ∷ es) (f ∷ fs) m n v w e =
     let tail : map Function es ++ Count m ∷ v ≡ map Function fs ++ Count n ∷ w = cc in
     after_count es fs m n v w tail
 
--- behind words comes a word where there are fewer, and `end` where there are as many
+-- after words comes a word where there are fewer, and `end` where there are as many
 after_words : (v w : List ℕ) (l : Line) (more : List Line) → map Word v ++ l ∷ more ≡ map Word w ++ End ∷ []
     → ((n : ℕ) × (l ≡ Word n) × (length v < length w)) ⊎ ((l ≡ End) × (length v ≡ length w))
 after_words [] [] l more e = inr (cc, refl)
@@ -79,7 +79,7 @@ pub get_or_append_at : (es gs : List Entry) (y d : Entry) → get_or (es ++ y �
 get_or_append_at [] gs y d = refl
 get_or_append_at (e ∷ es) gs y d = get_or_append_at es gs y d
 
--- ---- what may stand behind what was read
+-- ---- what may stand after what was read
 
 append_one : (ls more : List Line) (l : Line) → (ls ++ l ∷ []) ++ more ≡ ls ++ l ∷ more
 append_one ls more l = append_assoc ls (l ∷ []) more
@@ -268,7 +268,7 @@ pub ForFault-weaker : (e : OrMemory ImageFault) (P Q : ImageFault → Type 0) �
 ForFault-weaker Memory P Q h p = tt
 ForFault-weaker (Fault f) P Q h p = h f p
 
--- ---- faults behind the entries
+-- ---- faults after the entries
 
 pub entries_line_fault : (y : Layout) (text : List ℕ) (es : List Entry) (at k : ℕ) (e : OrMemory ImageFault) → EntriesRead y text es at → k ≡ length es
     → ForFault e (IsLineFault y (k + 2) (drop at text)) → ForFault e (IsFault text)
@@ -284,7 +284,7 @@ entries_order_fault y text es at next k l h same form e misplaced =
     (moved text (length es + 2) (k + 2) (entries_read y es) (drop at text) (drop at text) (reaches_entries y text es at h) (ap (λ m. m + 2) same) refl)
     form e misplaced
 
--- ---- faults behind the words
+-- ---- faults after the words
 
 words_reaches : (y : Layout) (text : List ℕ) (es : List Entry) (n : ℕ) (ws : List ℕ) (at k : ℕ) → WordsRead y text es n ws at → k ≡ length es + length ws
     → Reaches text (k + 3) (words_read y es n ws) (drop at text)

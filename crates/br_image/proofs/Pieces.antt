@@ -21,7 +21,7 @@ pub Free-append : (c : ℕ) (xs ys : List ℕ) → Free c xs → Free c ys → F
 Free-append c [] ys h k = k
 Free-append c (x ∷ xs) ys h k = (h.0, Free-append c xs ys h.1 k)
 
--- what stands before the first c, and what stands behind it
+-- what stands before the first c, and what stands after it
 pub cut : (c : ℕ) (xs ys v w : List ℕ) → Free c xs → Free c ys → xs ++ c ∷ v ≡ ys ++ c ∷ w → (xs ≡ ys) × (v ≡ w)
 cut c [] [] v w h k e = (refl, cc)
 cut c [] (y ∷ ys) v w h k e = absurd (k.0 cc)

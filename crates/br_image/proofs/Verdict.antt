@@ -260,7 +260,7 @@ misplaced_says text n t =
       why = inl (r.going, (BadOrder n, refl, inr (inr (ap BadOrder r.number, (t.next, t.rest, t.form, spread (line_text t.next) t.rest)))));
     }
 
--- behind a whole image's lines comes no line of an image
+-- after a whole image's lines comes no line of an image
 whole_stops : (text : List ℕ) (y : Layout) (es : List Entry) (ws rest : List ℕ) → text ≡ text_of (lines_of y es ws) ++ rest → All (IsLine y) (lines_of y es ws) → HaveDifferentNames es
     → Stops text (lines_of y es ws) rest
 whole_stops text y es ws rest e forms names = record {

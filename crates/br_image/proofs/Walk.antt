@@ -49,7 +49,7 @@ line_there y text at n within =
       ]
     ]
 
--- ---- behind all words
+-- ---- after all words
 
 entry_limits : (words : ℕ) (e : Entry) → IsEntryLine e → IsOffset words e.offset → EntryInLimits words e
 entry_limits words e h k = record { name = h.name; args = h.args; results = h.results; aligned = k.0; offset = k.1; need = h.need }

@@ -1,6 +1,6 @@
 // The text of images.
 
-use crate::{Entry, Image, ImageFault, print, read};
+use crate::{Entry, Image, ImageFault, ScriptFault, TraceFault, print, read};
 use br_base::{Name, NoMemory, OrMemory};
 use br_words::Layout;
 use sqlite_items::Items;
@@ -174,5 +174,32 @@ fn versions(rt: HostRuntime) -> Result<(), Fail> {
     for (text, fault) in &cases {
         assert_eq!(rt; fault_of(rt.alloc(), text.as_bytes())?, Some(*fault));
     }
+    Ok(())
+}
+
+#[test]
+fn faults_say_where(rt: HostRuntime) -> Result<(), Fail> {
+    for (fault, message) in [
+        (ImageFault::BadLine(1), "line 1 is of no form"),
+        (ImageFault::BadOrder(2), "line 2 may not stand there"),
+        (
+            ImageFault::BadOffset(3),
+            "the offset in line 3 is not in the code",
+        ),
+        (ImageFault::Truncated(4), "the text ends in line 4"),
+    ] {
+        assert_eq!(rt; format!(in rt.alloc(); "{fault}")?.as_str(), message);
+    }
+    for (fault, message) in [
+        (ScriptFault::BadScriptLine(5), "line 5 may not stand there"),
+        (ScriptFault::ScriptEnds(6), "the script ends in line 6"),
+    ] {
+        assert_eq!(rt; format!(in rt.alloc(); "{fault}")?.as_str(), message);
+    }
+    let fault = TraceFault::BadTraceLine(7);
+    assert_eq!(rt;
+        format!(in rt.alloc(); "{fault}")?.as_str(),
+        "line 7 may not stand there"
+    );
     Ok(())
 }

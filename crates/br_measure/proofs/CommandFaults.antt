@@ -6,7 +6,7 @@ use Rattle.br_syntax.specs.declared.program.Cmd.TheVariants.{If, rolls-If}
 use Rattle.br_syntax.specs.declared.program.Cmd.TheOpen.{Cmd-F}
 use Rattle.br_syntax.specs.declared.program.Cmd.TheFolds.{fold-roll-Cmd}
 use Rattle.br_syntax.specs.declared.program.Func.{Func}
-use Rattle.br_measure.specs.declared.fault.NameFault.{NameFault}
+use Rattle.br_measure.specs.declared.faults.NameFault.{NameFault}
 use Rattle.br_measure.specs.Names.{faults_step, command_faults, commands_faults}
 use Rattle.br_measure.specs.Lowest.{lower, lowest}
 use Rattle.br_measure.proofs.LowestParts.{lowest_append}

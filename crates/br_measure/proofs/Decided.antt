@@ -6,8 +6,8 @@ use Rattle.std.proofs.lemmas.Option.{slice_get-get_or}
 use Rattle.std.specs.List.{slice_get}
 use Rattle.br_syntax.specs.declared.program.Func.{Func}
 use Rattle.br_syntax.specs.NameFaults as names_are
-use Rattle.br_measure.specs.declared.fault.NameFault.{NameFault}
-use Rattle.br_measure.specs.declared.fault.NameFault.TheVariants.{TooLarge, Recursion, StackTooDeep}
+use Rattle.br_measure.specs.declared.faults.NameFault.{NameFault}
+use Rattle.br_measure.specs.declared.faults.NameFault.TheVariants.{TooLarge, Recursion, StackTooDeep}
 use Rattle.br_measure.specs.Bulk.{bulk, largest_bulk}
 use Rattle.br_measure.specs.Measure.{measure, measure_within}
 use Rattle.br_measure.specs.Names.{name_faults}

@@ -7,13 +7,14 @@ use Rattle.std.proofs.lemmas.List.Quantifiers.{position-Some}
 use Rattle.std.proofs.lemmas.Option.{slice_get-get_or, slice_get_within, get_or_from_slice_get}
 use Rattle.std.specs.List.{All, position, slice_get}
 use Rattle.br_syntax.specs.declared.program.Func.{Func}
-use Rattle.br_measure.specs.declared.fault.NameFault.{NameFault}
-use Rattle.br_measure.specs.declared.fault.NameFault.TheVariants.{DuplicateFunction, UnknownFunction, WrongArguments, WrongResults, UnknownAction, TooLarge, Recursion, StackTooDeep}
+use Rattle.br_measure.specs.declared.faults.NameFault.{NameFault}
+use Rattle.br_measure.specs.declared.faults.NameFault.TheVariants.{DuplicateFunction, UnknownFunction, WrongArguments, WrongResults, UnknownAction, TooLarge, Recursion, StackTooDeep}
+use Rattle.br_syntax.specs.FaultOrder.{IsLowest}
 use Rattle.br_syntax.specs.NameFaults.{HasNoNameFault}
 use Rattle.br_syntax.specs.Shape.{IsShaped}
 use Rattle.br_measure.specs.Bulk.{bulk, largest_bulk}
 use Rattle.br_measure.specs.Measure.{measure}
-use Rattle.br_measure.specs.Names.{place, name_faults, IsLowest}
+use Rattle.br_measure.specs.Names.{place, name_faults}
 use Rattle.br_measure.specs.Paths.{HasNoRecursion}
 use Rattle.br_measure.specs.Lowest.{lower_of, lower, lowest}
 use Rattle.br_measure.specs.Table.{call_table, IsFirstLoop}
@@ -73,7 +74,7 @@ least_is : (xs : List NameFault) (x : NameFault) → lowest xs ≡ Some x → Is
 least_is [] x e = absurd (cc)
 least_is (y ∷ ys) x e = least_with y x ys (lowest ys) refl (λ z is. least_is ys z is) e
 
-pub lowest_is : (xs : List NameFault) (x : NameFault) → lowest xs ≡ Some x → IsLowest xs x
+pub lowest_is : (xs : List NameFault) (x : NameFault) → lowest xs ≡ Some x → IsLowest place xs x
 lowest_is xs x e = let l = least_is xs x e in record { stands = l.0; lowest = l.1 }
 
 -- how many functions there are
@@ -156,7 +157,7 @@ kept_within fs ms k shallow are inside =
 
 -- a program that has no fault
 
-pub no_name : (fs : List Func) → HasNoNameFault fs → (fault : NameFault) → IsLowest (name_faults fs) fault → ⊥
+pub no_name : (fs : List Func) → HasNoNameFault fs → (fault : NameFault) → IsLowest place (name_faults fs) fault → ⊥
 no_name fs none fault lowest =
     let empty : length (name_faults fs) ≡ 0 = ap (λ (xs : List NameFault). length xs) (no_fault_stands fs none) in
     omega (arith, lowest.stands.1)

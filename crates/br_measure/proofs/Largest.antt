@@ -3,7 +3,7 @@ use Rattle.std.proofs.Common.{◌≡◌, ℕ, ◌+◌, ◌<◌, List, map, max, 
 use Rattle.std.proofs.lemmas.Grind.{common_steps}
 use Rattle.br_measure.specs.Measure.{largest}
 
--- the largest behind a place is that of the item there or of those behind it
+-- the largest after a place is that of the item there or of those after it
 pub largest_item : {X : Type 0} (F : X → ℕ) (xs : List X) (i : ℕ) (x : X) → i < length xs → x ≡ get_or xs i x
     → largest (map F (drop i xs)) ≡ max (F x) (largest (map F (drop (i + 1) xs)))
 largest_item F xs i x inside is = grind (arith, common_steps)

@@ -1,7 +1,7 @@
 -- The lowest of faults in parts.
 use Rattle.std.proofs.Common.{◌≡◌, ℕ, List, [], ◌∷◌, ◌++◌, Option, Some, None, ◌+◌, ◌<◌, length, get_or, drop, map, refl, ap, ◌∙◌, arith}
 use Rattle.std.proofs.lemmas.Grind.{common_steps}
-use Rattle.br_measure.specs.declared.fault.NameFault.{NameFault}
+use Rattle.br_measure.specs.declared.faults.NameFault.{NameFault}
 use Rattle.br_measure.specs.Names.{joined}
 use Rattle.br_measure.specs.Lowest.{lower_of, lower, lowest}
 

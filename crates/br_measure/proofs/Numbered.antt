@@ -6,8 +6,8 @@ use Rattle.std.proofs.lemmas.Slice.Eq.{bytes_eq-Decides}
 use Rattle.std.specs.Str.{bytes_eq}
 use Rattle.br_syntax.specs.declared.program.Func.{Func}
 use Rattle.br_syntax.specs.Functions.{function_named, number_named}
-use Rattle.br_measure.specs.declared.fault.NameFault.{NameFault}
-use Rattle.br_measure.specs.declared.fault.NameFault.TheVariants.{DuplicateFunction}
+use Rattle.br_measure.specs.declared.faults.NameFault.{NameFault}
+use Rattle.br_measure.specs.declared.faults.NameFault.TheVariants.{DuplicateFunction}
 use Rattle.br_measure.specs.Names.{duplicates_after}
 use Rattle.br_measure.specs.Lowest.{lower, lowest}
 use Rattle.br_measure.proofs.LowestParts.{lower_assoc}

@@ -2,11 +2,12 @@
 use Rattle.std.proofs.Common.{◌≡◌, ℕ, zero, suc, ◌+◌, ◌*◌, ◌/◌, ◌%◌, ◌<◌, ◌≤◌, ◌==◌, if◌then◌else◌, List, [], ◌∷◌, Some, length, get_or, map, refl, sym, ap, subst, ◌∙◌, arith, ⊎_elim, Contains}
 use Rattle.std.proofs.lemmas.Bool.{cases_order}
 use Rattle.br_syntax.specs.declared.program.Func.{Func}
+use Rattle.br_syntax.specs.FaultOrder.{IsLowest}
 use Rattle.br_syntax.specs.NameFaults as names
-use Rattle.br_measure.specs.declared.fault.NameFault.{NameFault}
-use Rattle.br_measure.specs.declared.fault.NameFault.TheVariants.{DuplicateFunction, UnknownFunction, WrongArguments, WrongResults, UnknownAction, TooLarge, Recursion, StackTooDeep}
+use Rattle.br_measure.specs.declared.faults.NameFault.{NameFault}
+use Rattle.br_measure.specs.declared.faults.NameFault.TheVariants.{DuplicateFunction, UnknownFunction, WrongArguments, WrongResults, UnknownAction, TooLarge, Recursion, StackTooDeep}
 use Rattle.br_measure.specs.Measure.{measure}
-use Rattle.br_measure.specs.Names.{place, name_faults, IsLowest}
+use Rattle.br_measure.specs.Names.{place, name_faults}
 use Rattle.br_measure.specs.Faults.{IsRecursive, IsTooDeep, IsLaterFault, IsFault}
 use Rattle.br_measure.proofs.FoundFaults.{no_name}
 use Rattle.br_measure.proofs.SameFaults.{told, faults_same}
@@ -42,7 +43,7 @@ stands_told fs x c =
     let here = subst (λ (xs : List NameFault). Contains xs x) (faults_same fs) c in
     told_at (names.name_faults fs) here.0 x here.1 here.2
 
-one_lowest : (fs : List Func) (x y : NameFault) → IsLowest (name_faults fs) x → IsLowest (name_faults fs) y → x ≡ y
+one_lowest : (fs : List Func) (x y : NameFault) → IsLowest place (name_faults fs) x → IsLowest place (name_faults fs) y → x ≡ y
 one_lowest fs x y a b =
     let n = stands_told fs x a.stands in
     let m = stands_told fs y b.stands in

@@ -53,7 +53,7 @@ module _ {X : Type 0} where
   pub finds_position : (p : X → Bool) (xs : List X) → is_some (find p xs) ≡ is_some (position p xs)
   finds_position p xs = ap is_some (find_at p xs) ∙ stands xs (position_or_len p xs)
 
-  -- one more item behind those that were searched
+  -- one more item after those that were searched
   pub position_push_found : (p : X → Bool) (xs : List X) (y : X) → is_some (position p xs) ≡ true → position p (xs ++ y ∷ []) ≡ position p xs
   position_push_found p xs y e = let f = position_or_len_push p xs y in grind (arith, common_steps, nat_tests)
 

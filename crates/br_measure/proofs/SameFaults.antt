@@ -7,8 +7,8 @@ use Rattle.br_syntax.specs.declared.program.Cmd.TheFolds.{map-Cmd, fold-roll-Cmd
 use Rattle.br_syntax.specs.declared.program.Func.{Func}
 use Rattle.br_syntax.specs.Functions.{function_named}
 use Rattle.br_syntax.specs.NameFaults as names
-use Rattle.br_measure.specs.declared.fault.NameFault.{NameFault}
-use Rattle.br_measure.specs.declared.fault.NameFault.TheVariants.{DuplicateFunction, UnknownFunction, WrongArguments, WrongResults, UnknownAction}
+use Rattle.br_measure.specs.declared.faults.NameFault.{NameFault}
+use Rattle.br_measure.specs.declared.faults.NameFault.TheVariants.{DuplicateFunction, UnknownFunction, WrongArguments, WrongResults, UnknownAction}
 use Rattle.br_measure.specs.Names.{count_faults, call_faults, action_faults, joined, faults_step, command_faults, commands_faults, duplicates_after, name_faults}
 
 -- the same fault

@@ -2,11 +2,12 @@
 use Rattle.std.specs.Prelude.{◌≡◌, ℕ, ◌<◌, ◌≤◌, ◌⊎◌, List, Some, min, slice_get}
 use Rattle.std.specs.List.{All}
 use Rattle.br_syntax.specs.declared.program.Func.{Func}
+use Rattle.br_syntax.specs.FaultOrder.{IsLowest}
 use Rattle.br_syntax.specs.NameFaults.{HasNoNameFault}
-use Rattle.br_measure.specs.declared.fault.NameFault.{NameFault}
-use Rattle.br_measure.specs.declared.fault.NameFault.TheVariants.{DuplicateFunction, UnknownFunction, WrongArguments, WrongResults, UnknownAction, TooLarge, Recursion, StackTooDeep}
+use Rattle.br_measure.specs.declared.faults.NameFault.{NameFault}
+use Rattle.br_measure.specs.declared.faults.NameFault.TheVariants.{DuplicateFunction, UnknownFunction, WrongArguments, WrongResults, UnknownAction, TooLarge, Recursion, StackTooDeep}
 use Rattle.br_measure.specs.Bulk.{bulk, largest_bulk}
-use Rattle.br_measure.specs.Names.{name_faults, IsLowest}
+use Rattle.br_measure.specs.Names.{place, name_faults}
 use Rattle.br_measure.specs.Paths.{CallPath, HasNoRecursion}
 use Rattle.br_measure.specs.Measure.{measure}
 
@@ -38,7 +39,7 @@ IsLaterFault fs (UnknownAction at) = ⊥
 
 -- the fault of a program: the lowest fault of a name, else a later one
 abbrev pub IsFault : List Func → NameFault → Type 0
-IsFault fs fault = IsLowest (name_faults fs) fault ⊎ (HasNoNameFault fs × IsLaterFault fs fault)
+IsFault fs fault = IsLowest place (name_faults fs) fault ⊎ (HasNoNameFault fs × IsLaterFault fs fault)
 
 -- a program that has no fault
 pub record IsSound (fs : List Func) : Type 0 where

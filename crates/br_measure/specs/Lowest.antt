@@ -1,11 +1,12 @@
 -- The lowest of faults of names, computed.
-use Rattle.std.specs.Prelude.{List, [], ◌∷◌, Option, Some, None, nat_le, if◌then◌else◌}
-use Rattle.br_measure.specs.declared.fault.NameFault.{NameFault}
+use Rattle.std.specs.Prelude.{List, [], ◌∷◌, Option, Some, None}
+use Rattle.br_base.specs.Faults.{lower_by}
+use Rattle.br_measure.specs.declared.faults.NameFault.{NameFault}
 use Rattle.br_measure.specs.Names.{place}
 
 -- the lower of two faults
 abbrev pub lower_of : NameFault → NameFault → NameFault
-lower_of f g = if nat_le (place f) (place g) then f else g
+lower_of = lower_by place
 
 -- the lower of two, where each may be none
 abbrev pub lower : Option NameFault → Option NameFault → Option NameFault

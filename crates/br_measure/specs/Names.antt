@@ -1,12 +1,11 @@
 -- Which names of a program are at fault, as the faults of this crate.
-use Rattle.std.specs.Prelude.{ℕ, ◌+◌, ◌*◌, ◌≤◌, List, Option}
-use Rattle.std.specs.List.{All, Contains}
+use Rattle.std.specs.Prelude.{ℕ, ◌+◌, ◌*◌, List, Option}
 use Rattle.br_syntax.specs.declared.program.Cmd.{Cmd}
 use Rattle.br_syntax.specs.declared.program.Cmd.TheOpen.{Cmd-F}
 use Rattle.br_syntax.specs.declared.program.Func.{Func}
 use Rattle.br_syntax.specs.NameFaults as names
-use Rattle.br_measure.specs.declared.fault.NameFault.{NameFault}
-use Rattle.br_measure.specs.declared.fault.NameFault.TheVariants.{DuplicateFunction, UnknownFunction, WrongArguments, WrongResults, UnknownAction, TooLarge, Recursion, StackTooDeep}
+use Rattle.br_measure.specs.declared.faults.NameFault.{NameFault}
+use Rattle.br_measure.specs.declared.faults.NameFault.TheVariants.{DuplicateFunction, UnknownFunction, WrongArguments, WrongResults, UnknownAction, TooLarge, Recursion, StackTooDeep}
 
 -- a number that orders faults of names by offset, and at one offset as they are listed here
 abbrev pub place : NameFault → ℕ
@@ -54,8 +53,3 @@ duplicates_after = names.duplicates_after NameFault DuplicateFunction UnknownFun
 -- all faults of names in a program
 abbrev pub name_faults : List Func → List NameFault
 name_faults = names.faults_of_names NameFault DuplicateFunction UnknownFunction WrongArguments WrongResults UnknownAction
-
--- one of the faults, and none of them is lower
-pub record IsLowest (faults : List NameFault) (fault : NameFault) : Type 0 where
-  pub stands : Contains faults fault
-  pub lowest : All (λ other. place fault ≤ place other) faults

@@ -1,15 +1,15 @@
 // Programs that keep every rule on names, bulk, recursion and stack.
 
 ghost use Rattle.std.specs.Prelude.{◌≡◌, ℕ, ◌<◌, ◌≤◌, List, Some, length, map, min, slice_get, IfOk, IfErr};
+ghost use Rattle.br_base.specs.Faults.{IfFault};
 ghost use Rattle.br_syntax.specs.declared.program.Func.{Func};
-ghost use Rattle.br_syntax.specs.Denotes.{IfFault};
 ghost use Rattle.br_syntax.specs.Functions.{number_named};
 ghost use Rattle.br_measure.specs.Bulk.{bulk};
 ghost use Rattle.br_measure.specs.Measure.{measure};
 ghost use Rattle.br_measure.specs.Faults.{IsFault, IsSound};
 
 use crate::bulk::bulk_of;
-use crate::fault::NameFault;
+use crate::faults::NameFault;
 use crate::phases::{Examined, examine};
 use br_base::{NoMemory, OrMemory};
 use br_syntax::{Func, Program};

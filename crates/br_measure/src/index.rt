@@ -8,7 +8,7 @@ ghost use Rattle.br_syntax.specs.Functions.{function_named, number_named};
 ghost use Rattle.br_measure.specs.Names.{duplicates_after};
 ghost use Rattle.br_measure.specs.Lowest.{lowest};
 
-use crate::fault::NameFault;
+use crate::faults::NameFault;
 use crate::lowest::lower;
 use br_base::NoMemory;
 use br_syntax::Func;

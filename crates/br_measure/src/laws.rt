@@ -4,7 +4,7 @@ ghost use Rattle.std.specs.Prelude.{◌≡◌, ℕ, ◌+◌, ◌*◌, ◌⊎◌,
 ghost use Rattle.std.specs.Option.{option_map, unwrap_or};
 ghost use Rattle.br_syntax.specs.declared.program.Func.{Func};
 ghost use Rattle.br_syntax.specs.Functions.{function_named};
-ghost use Rattle.br_measure.specs.declared.fault.NameFault.{NameFault};
+ghost use Rattle.br_measure.specs.declared.faults.NameFault.{NameFault};
 ghost use Rattle.br_measure.specs.Bulk.{function_bulk};
 ghost use Rattle.br_measure.specs.Faults.{IsFault, IsSound};
 ghost use Rattle.br_measure.specs.Measure.{measure, nested_buffers, largest};

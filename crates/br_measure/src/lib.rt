@@ -4,7 +4,7 @@
 mod bulk;
 mod calls;
 mod checking;
-mod fault;
+mod faults;
 mod index;
 mod laws;
 mod lowest;
@@ -16,7 +16,7 @@ mod phases;
 
 pub use bulk::bulk_of;
 pub use checking::{Checked, check};
-pub use fault::NameFault;
+pub use faults::NameFault;
 pub use laws::{
     faults_are_unique, measures_add_up, programs_are_decided, sound_programs_have_no_fault,
 };

@@ -3,7 +3,7 @@
 ghost use Rattle.std.specs.Prelude.{◌≡◌};
 ghost use Rattle.br_measure.specs.Lowest.{lower};
 
-use crate::fault::NameFault;
+use crate::faults::NameFault;
 
 pub fn lower(first: Option<NameFault>, second: Option<NameFault>) -> Option<NameFault>
     ensures { result ≡ lower first second }

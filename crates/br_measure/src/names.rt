@@ -5,7 +5,7 @@ ghost use Rattle.br_measure.specs.Names.{joined, count_faults, action_faults, ca
 ghost use Rattle.br_measure.specs.Lowest.{lowest};
 ghost use Rattle.br_syntax.specs.Functions.{function_named};
 
-use crate::fault::NameFault;
+use crate::faults::NameFault;
 use crate::index::Index;
 use crate::lowest::lower;
 use br_base::{Name, NoMemory};

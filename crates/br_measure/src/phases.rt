@@ -13,7 +13,7 @@ ghost use Rattle.br_measure.specs.Faults.{IsFault, IsSound};
 ghost use Rattle.br_measure.specs.Examination.{IsExamined};
 
 use crate::calls::call_table;
-use crate::fault::NameFault;
+use crate::faults::NameFault;
 use crate::index::Index;
 use crate::measures::measures;
 use crate::names::read_names;

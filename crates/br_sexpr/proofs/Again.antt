@@ -64,7 +64,7 @@ name-continues (b ∷ bs) is =
     let parts = and_parts (starts_name b) (list_all continues_name bs) is in
     (omega arith, rw (starts-continues b parts.0) parts.1)
 
--- a tree that is read again behind its text
+-- a tree that is read again after its text
 record Again (t : Tree) (at : ℕ) (rest : List ℕ) : Type 0 where
   got : Tree
   end : ℕ
@@ -72,7 +72,7 @@ record Again (t : Tree) (at : ℕ) (rest : List ℕ) : Type 0 where
   same : bare got ≡ bare t
   high : tree_height got ≡ tree_height t
 
--- and a list of trees behind a text of theirs
+-- and a list of trees after a text of theirs
 record AgainAll (text : List ℕ) (ts : List Tree) (at : ℕ) (rest : List ℕ) : Type 0 where
   got : List Tree
   end : ℕ

@@ -10,7 +10,7 @@ use Rattle.br_sexpr.specs.Token.{opens, closes, strays, token_of_run, tokens_at,
 use Rattle.br_sexpr.specs.declared.piece.Kind.{Kind}
 use Rattle.br_sexpr.specs.Progress.{Within, outside, in_comment, in_run, goes_on, begun, within, pieces, tokens_from, token_as}
 
--- what goes on behind a piece that has begun is no piece of its own
+-- what goes on after a piece that has begun is no piece of its own
 pub pieces-skip : (w : Within) (bs : List ℕ) → pieces w bs ≡ pieces outside (drop (prefix_len (goes_on w) bs) bs)
 pieces-skip w [] = refl
 pieces-skip w (b ∷ bs) =
@@ -77,7 +77,7 @@ module _ (place b : ℕ) (bs : List ℕ) where
               (cond-false _ _ _ black ∙ cond-false _ _ _ (ne_eqb b 59 code) ∙ cond-false _ _ _ (ne_eqb b 40 other) ∙ cond-false _ _ _ (ne_eqb b 41 last) ∙ cond-false _ _ _ is)
               (cond-false _ _ _ black ∙ cond-false _ _ _ (ne_eqb b 59 code) ∙ cond-false _ _ _ (ne_eqb b 40 other) ∙ cond-false _ _ _ (ne_eqb b 41 last) ∙ cond-false _ _ _ is) refl (none-behind bs)
 
--- a text that begins with b, cut behind it
+-- a text that begins with b, cut after it
 pub cut-whole : (place : ℕ) (text : List ℕ) (b : ℕ) (bs : List ℕ) (k : Kind) (n : ℕ) → text ≡ b ∷ bs → tokens_from place (b ∷ bs) ≡ token_as place k (b ∷ take n bs) ++ tokens_from (place + (1 + n)) (drop n bs) → tokens_from place text ≡ token_as place k (take (1 + n) text) ++ tokens_from (place + (1 + n)) (drop (1 + n) text)
 cut-whole place text b bs k n is cut =
     let P : ℕ → Type 0 = λ m. tokens_from place (b ∷ bs) ≡ token_as place k (take m (b ∷ bs)) ++ tokens_from (place + (1 + n)) (drop m (b ∷ bs)) in

@@ -11,7 +11,7 @@ digits_value_after-ge : (base n : ℕ) (ds : List ℕ) → 1 ≤ base → n ≤ 
 digits_value_after-ge base n [] low = omega arith
 digits_value_after-ge base n (c ∷ ds) low = omega (arith, digits_value_after-ge base (n * base + digit_value c) ds low, mul-le-mul_left n low)
 
--- the number that the digits stand for behind those of n
+-- the number that the digits stand for after those of n
 abbrev whole_in : ℕ → ℕ → List ℕ → Option ℕ
 whole_in base n ds = cond (are_digits base ds && ltb (digits_value_after base n ds) (2 ^ 32)) (Some (digits_value_after base n ds)) None
 

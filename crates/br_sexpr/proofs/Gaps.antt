@@ -92,7 +92,7 @@ one-token closing at = inr (closes at, refl, refl)
 one-token (run bs) at = inr (token_of_run at bs, refl, place-run at bs)
 one-token (stray b) at = inr (strays at, refl, refl)
 
--- tokens that stand at or behind an offset
+-- tokens that stand at or after an offset
 abbrev StandFrom : ℕ → List Token → Type 0
 StandFrom at ts = (k : ℕ) (t : Token) → slice_get ts k ≡ Some t → at ≤ place_of t
 
@@ -112,7 +112,7 @@ ascend-more at first ts is later order zero k t u below there then =
 ascend-more at first ts is later order (suc j) zero t u below there then = absurd (omega (arith, below))
 ascend-more at first ts is later order (suc j) (suc k) t u below there then = order j k t u (omega arith) there then
 
--- the tokens of a text stand at or behind its first byte, in order
+-- the tokens of a text stand at or after its first byte, in order
 in-order : (ps : List Piece) (at : ℕ) → StandFrom at (tokens_of at ps) × Ascend (tokens_of at ps)
 in-order [] at = (λ k t there. absurd (none-some t there), λ j k t u below there then. absurd (none-some t there))
 in-order (p ∷ ps) at =

@@ -91,7 +91,7 @@ apart-more base (o ∷ os) front more ordered =
       items = ap (innermost o.start os) (drop-append-le n front more within) ∙ later.items;
     }
 
--- one more list that begins behind the front
+-- one more list that begins after the front
 record Begun (base : ℕ) (os : List OpenList) (o : OpenList) (front more : List Tree) : Type 0 where
   lists : opened base (os ++ o ∷ []) (front ++ more) ≡ opened base os front ++ (record { at = o.at; before = innermost base os front }) ∷ []
   items : innermost base (os ++ o ∷ []) (front ++ more) ≡ more

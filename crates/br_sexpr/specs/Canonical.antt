@@ -10,7 +10,7 @@ use Rattle.br_sexpr.specs.declared.tree.Tree.TheViews.{made-Name, made-Number}
 use Rattle.br_base.specs.Name.{is_name}
 use Rattle.br_sexpr.specs.Forest.{forest_height}
 
--- each text behind a space
+-- each text after a space
 abbrev pub spaced : List (List ℕ) → List ℕ
 spaced [] = []
 spaced (x ∷ xs) = 32 ∷ (x ++ spaced xs)

@@ -10,7 +10,7 @@ but_last [] = []
 but_last (x ∷ []) = []
 but_last (x ∷ y ∷ xs) = x ∷ but_last (y ∷ xs)
 
--- The offsets of the `(` that are open behind these tokens, the outermost first, where those at xs are open before them. A `)` is the partner of the last one.
+-- The offsets of the `(` that are open after these tokens, the outermost first, where those at xs are open before them. A `)` is the partner of the last one.
 abbrev pub open_behind : List ℕ → List Token → List ℕ
 open_behind xs [] = xs
 open_behind xs (opens at ∷ ts) = open_behind (xs ++ at ∷ []) ts

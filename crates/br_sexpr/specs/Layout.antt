@@ -5,7 +5,7 @@ use Rattle.br_base.specs.Name.{continues_name}
 
 pub data Piece : Type 0 where
   blank : ℕ → Piece
-  -- what stands behind the `;`
+  -- what stands after the `;`
   comment : List ℕ → Piece
   opening : Piece
   closing : Piece

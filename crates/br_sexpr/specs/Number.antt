@@ -21,7 +21,7 @@ abbrev pub leads_no_zero : List ℕ → Bool
 leads_no_zero [] = false
 leads_no_zero (c ∷ cs) = is_empty cs || not (c == 48)
 
--- the bytes behind `0x`, where the run begins so
+-- the bytes after `0x`, where the run begins so
 abbrev pub behind_0x : List ℕ → Option (List ℕ)
 behind_0x [] = None
 behind_0x (c ∷ []) = None

@@ -27,7 +27,7 @@ goes_on outside b = false
 goes_on in_comment b = stays_in_line b
 goes_on in_run b = continues_name b
 
--- the piece that a byte begins, and what goes on behind it
+-- the piece that a byte begins, and what goes on after it
 abbrev pub begun : ℕ → List ℕ → Piece
 begun b bs =
     if is_blank b then blank b else
@@ -75,7 +75,7 @@ abbrev pub innermost : ℕ → List OpenList → List Tree → List Tree
 innermost base [] trees = trees
 innermost base (o ∷ os) trees = innermost o.start os (drop (o.start - base) trees)
 
--- each list starts at or behind the one around it, and none behind n
+-- each list starts at or after the one around it, and none after n
 abbrev pub Ordered : ℕ → List OpenList → ℕ → Type 0
 Ordered base [] n = base ≤ n
 Ordered base (o ∷ os) n = (base ≤ o.start) × Ordered o.start os n
@@ -146,11 +146,11 @@ Answers (Ok trees) ts = IsForest trees ts
 Answers (Err Memory) ts = ⊤
 Answers (Err (Fault f)) ts = fault_within [] ts ≡ Some f
 
--- the number with one more digit behind it, where it is one and the number is below 2^32
+-- the number with one more digit after it, where it is one and the number is below 2^32
 abbrev pub and_digit : ℕ → ℕ → ℕ → Option ℕ
 and_digit base n c = if is_digit c base && nat_lt (n * base + digit_value c) (2 ^ 32) then Some (n * base + digit_value c) else None
 
--- the number with all these digits behind it
+-- the number with all these digits after it
 abbrev pub and_digits : ℕ → List ℕ → Option ℕ → Option ℕ
 and_digits base cs None = None
 and_digits base [] (Some n) = Some n

@@ -23,7 +23,7 @@ pub fn one_layout()
     ensures one { (text : List ℕ) (ps qs : List Piece) → IsLayout ps text → IsLayout qs text → ps ≡ qs }
 {}
 
-/// Nothing but blanks and comments lies between the tokens of a text, before the first and behind
+/// Nothing but blanks and comments lies between the tokens of a text, before the first and after
 /// the last.
 pub fn only_gaps_between()
     ensures { (text : List ℕ) (ps : List Piece) → IsLayout ps text → Alternates 0 text (tokens_of 0 ps) }

@@ -36,7 +36,7 @@ pub fn first_piece(text: &[u8]) -> (Kind, usize)
     (kind, 1 + len)
 }
 
-/// What a byte begins, and how many of the bytes behind it belong to it.
+/// What a byte begins, and how many of the bytes after it belong to it.
 fn begun(first: u8, rest: &[u8]) -> (Kind, usize)
     ensures within { result.1 ≤ length rest.now }
     ensures cut { (at : ℕ) → tokens_from at (first ∷ rest.now)

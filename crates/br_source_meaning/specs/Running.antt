@@ -29,7 +29,7 @@ end_of stop.NoChoice = NoChoice
 unfoldable pub deep_calls : List Func → Callee
 deep_calls fs = function_of fs (2 ^ 32)
 
--- an answer and the state behind it are a run; want of memory says nothing
+-- an answer and the state after it are a run; want of memory says nothing
 abbrev pub Leads : {T : Type 0} → Result T (OrMemory Stop) → Running → Run → Type 0
 Leads (Ok x) r run = run ≡ Goes (state_of r)
 Leads (Err (Fault e)) r run = run ≡ Ends (end_of e) (state_of r)

@@ -34,7 +34,7 @@ both f None b = None
 both f (Some a) None = None
 both f (Some a) (Some b) = Some (f a b)
 
--- the first of two where a word is not 0, else the second; with no word there is nselected
+-- the first of two where a word is not 0, else the second; with no word, none is selected
 abbrev pub selected : Option ℕ → Option ℕ → Option ℕ → Option ℕ
 selected None a b = None
 selected (Some v) a b = if v == 0 then b else a

@@ -1,8 +1,8 @@
 -- How the parts so far and those that follow make the whole.
 use Rattle.std.proofs.Common.{◌≡◌, List, [], ◌∷◌, Ok, Err, refl, ap, sym, append_assoc, append-nil, arith}
 use Rattle.std.proofs.lemmas.Grind.{common_steps}
-use Rattle.br_syntax.specs.declared.fault.ShapeFault.{ShapeFault}
-use Rattle.br_syntax.specs.Fault.{lower}
+use Rattle.br_syntax.specs.declared.faults.ShapeFault.{ShapeFault}
+use Rattle.br_syntax.specs.FaultOrder.{lower}
 use Rattle.br_syntax.specs.Shaped.{Shaped, ◌<$>◌, both, joined, with_one}
 
 pub lower_assoc : (f g h : ShapeFault) → lower f (lower g h) ≡ lower (lower f g) h

@@ -12,7 +12,7 @@ use Rattle.br_syntax.specs.Shaped.{both}
 use Rattle.br_syntax.specs.Denotes.{word_in, word_of, name_among, names_after, names_in, names}
 use Rattle.br_syntax.proofs.Parts.{made, split}
 
--- what it takes to be a name behind these items
+-- what it takes to be a name after these items
 record Fresh (earlier : List Tree) (word name : List ℕ) : Type 0 where
   few : length earlier ≢ 8
   new : list_any (λ t. bytes_eq (word_of t) name) earlier ≡ false

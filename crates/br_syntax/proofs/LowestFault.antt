@@ -9,8 +9,8 @@ use Rattle.br_sexpr.specs.declared.tree.Tree.{Tree, out-Tree, roll-Tree}
 use Rattle.br_sexpr.specs.declared.tree.Tree.TheOpen.{Tree-F}
 use Rattle.br_sexpr.specs.declared.tree.Tree.TheOpen.Tree-F.{Name, Number, List as Items}
 use Rattle.br_sexpr.specs.declared.tree.Tree.TheFolds.{ind-Tree, map-Tree, para-roll-Tree}
-use Rattle.br_syntax.specs.declared.fault.ShapeFault.{ShapeFault}
-use Rattle.br_syntax.specs.declared.fault.ShapeFault.TheVariants.{BadForm, BadSize, BadByteValue, TooMany, Repeated}
+use Rattle.br_syntax.specs.declared.faults.ShapeFault.{ShapeFault}
+use Rattle.br_syntax.specs.declared.faults.ShapeFault.TheVariants.{BadForm, BadSize, BadByteValue, TooMany, Repeated}
 use Rattle.br_syntax.specs.declared.program.Expr.{Expr}
 use Rattle.br_syntax.specs.declared.program.Expr.TheVariants as expr
 use Rattle.br_syntax.specs.declared.program.Cmd.{Cmd}
@@ -20,12 +20,12 @@ use Rattle.br_syntax.specs.declared.word.ExprWord.{ExprWord}
 use Rattle.br_syntax.specs.declared.word.ExprWord.TheVariants as e
 use Rattle.br_syntax.specs.declared.word.CmdWord.{CmdWord}
 use Rattle.br_syntax.specs.declared.word.CmdWord.TheVariants as c
-use Rattle.br_syntax.specs.Fault.{place, lower}
+use Rattle.br_syntax.specs.FaultOrder.{place, lower, IsLowest}
 use Rattle.br_syntax.specs.Shape.{is_buffer_size}
 use Rattle.br_syntax.specs.Word.{expr_word, cmd_word}
 use Rattle.br_syntax.specs.Shaped.{Shaped, ◌<$>◌, lowest, both, all}
 use Rattle.br_syntax.specs.Denotes.{offset_of, word_of, name, name_in, names, names_in, name_among, names_after, buffer_size, buffer_size_in, byte, byte_in, bytes, bytes_in, WithExpr, with_expression, of_two, of_three, of_four, expression_of, expression_in, expression, argument_at, arguments_from, Places, WithPlaces, places, places_in, with_places, body_of, skip_of, set_of, unset_of, store_of, stackalloc_of, if_of, while_of, target_of, call_of, interact_of, form_of, command_of, behind_of, commands, function_of, function_list, function_in, function, functions}
-use Rattle.br_syntax.specs.Faults.{Faults, in_name, in_name_after, in_names_after, in_names, in_buffer_size, in_byte, in_bytes, WithFaults, in_two, in_three, in_four, in_items, in_expression_layer, in_expression, in_arguments_from, FaultPlaces, WithFaultPlaces, in_body, in_target, in_form, in_command_items, in_behind_items, in_places_layer, in_places, in_commands, in_function_items, in_function, all_faults, IsLowest}
+use Rattle.br_syntax.specs.Faults.{Faults, in_name, in_name_after, in_names_after, in_names, in_buffer_size, in_byte, in_bytes, WithFaults, in_two, in_three, in_four, in_items, in_expression_layer, in_expression, in_arguments_from, FaultPlaces, WithFaultPlaces, in_body, in_target, in_form, in_command_items, in_behind_items, in_places_layer, in_places, in_commands, in_function_items, in_function, all_faults}
 use Rattle.br_syntax.proofs.Joined.{lower_assoc}
 
 -- the fault of a part, if it has one
@@ -417,12 +417,12 @@ least_of [] f e = absurd (cc)
 least_of (g ∷ gs) f e = step_least g gs (lowest_of gs) refl (least_of gs) f e
 
 -- the lowest of a list, in words
-lowest_in : (fs : Faults) (f : ShapeFault) → lowest_of fs ≡ Some f → IsLowest fs f
+lowest_in : (fs : Faults) (f : ShapeFault) → lowest_of fs ≡ Some f → IsLowest place fs f
 lowest_in fs f e =
     let least = least_of fs f e in
     record { stands = least.stands; lowest = All-from_recursion (λ (o : ShapeFault). place f ≤ place o) fs least.below }
 
-pub lowest_fault : (trees : List Tree) (fault : ShapeFault) → functions trees ≡ Err fault → IsLowest (all_faults trees) fault
+pub lowest_fault : (trees : List Tree) (fault : ShapeFault) → functions trees ≡ Err fault → IsLowest place (all_faults trees) fault
 lowest_fault trees fault is = let h = functions_lowest trees in lowest_in (all_faults trees) fault (sym h.is ∙ ap fault_of is)
 
 pub no_fault : (trees : List Tree) (funcs : List Func) → functions trees ≡ Ok funcs → all_faults trees ≡ []

@@ -5,7 +5,7 @@ use Rattle.std.specs.List.{list_any}
 use Rattle.std.specs.Str.{bytes_eq}
 use Rattle.br_sexpr.specs.declared.tree.Tree.{Tree, out-Tree}
 use Rattle.br_sexpr.specs.declared.tree.Tree.TheVariants.{Name, outs-Name}
-use Rattle.br_syntax.specs.declared.fault.ShapeFault.TheVariants.{Repeated}
+use Rattle.br_syntax.specs.declared.faults.ShapeFault.TheVariants.{Repeated}
 use Rattle.br_syntax.specs.Denotes.{word_of, name_among}
 
 module _ (earlier : List Tree) (item : Tree) (at : ℕ) (text : List ℕ) (is : item ≡ Name at text) (few : length earlier ≢ 8) (bytes : List ℕ) (same : bytes ≡ text) where

@@ -1,17 +1,15 @@
 -- What trees stand for, by the kind of tree that their place asks for.
-use Rattle.std.specs.Prelude.{◌≡◌, ⊤, ℕ, ◌+◌, List, [], ◌∷◌, ◌++◌, Option, Some, None, Ok, Err, length, map, nat_le, ◌==◌, if◌then◌else◌, codes}
+use Rattle.std.specs.Prelude.{◌≡◌, ℕ, ◌+◌, List, [], ◌∷◌, ◌++◌, Option, Some, None, Ok, Err, length, map, nat_le, ◌==◌, if◌then◌else◌, codes}
 use Rattle.std.specs.List.{list_any}
 use Rattle.std.specs.Str.{bytes_eq}
-use Rattle.br_base.specs.declared.failure.OrMemory.{OrMemory}
-use Rattle.br_base.specs.declared.failure.OrMemory.TheVariants.{Memory, Fault}
 use Rattle.br_words.specs.declared.operation.BinOp.{BinOp}
 use Rattle.br_words.specs.declared.size.Size.{Size}
 use Rattle.br_sexpr.specs.declared.tree.Tree.{Tree, out-Tree}
 use Rattle.br_sexpr.specs.declared.tree.Tree.TheOpen.{Tree-F}
 use Rattle.br_sexpr.specs.declared.tree.Tree.TheOpen.Tree-F.{Name, Number, List as Items}
 use Rattle.br_sexpr.specs.declared.tree.Tree.TheFolds.{para-Tree}
-use Rattle.br_syntax.specs.declared.fault.ShapeFault.{ShapeFault}
-use Rattle.br_syntax.specs.declared.fault.ShapeFault.TheVariants.{BadForm, BadSize, BadByteValue, TooMany, Repeated}
+use Rattle.br_syntax.specs.declared.faults.ShapeFault.{ShapeFault}
+use Rattle.br_syntax.specs.declared.faults.ShapeFault.TheVariants.{BadForm, BadSize, BadByteValue, TooMany, Repeated}
 use Rattle.br_syntax.specs.declared.program.Expr.{Expr}
 use Rattle.br_syntax.specs.declared.program.Expr.TheVariants as expr
 use Rattle.br_syntax.specs.declared.program.Cmd.{Cmd}
@@ -55,7 +53,7 @@ name_in (Items at items) = Err (BadForm at)
 abbrev pub name : Tree → Shaped (List ℕ)
 name t = name_in (out-Tree t)
 
--- an item of a list of names, behind these items
+-- an item of a list of names, after these items
 abbrev pub name_among : {X : Type 0} → List Tree → Tree-F X → Shaped (List ℕ)
 name_among earlier (Name at text) =
     if length earlier == 8 then Err (TooMany at)
@@ -64,7 +62,7 @@ name_among earlier (Name at text) =
 name_among earlier (Number at value) = Err (BadForm at)
 name_among earlier (Items at items) = Err (BadForm at)
 
--- items of a list of names, behind these items
+-- items of a list of names, after these items
 abbrev pub names_after : List Tree → List Tree → Shaped (List (List ℕ))
 names_after earlier [] = Ok []
 names_after earlier (t ∷ ts) =
@@ -177,16 +175,16 @@ expression = para-Tree (Shaped Expr) expression_in
 abbrev pub with_expression : Tree → WithExpr
 with_expression t = (t, expression t)
 
--- an argument of a call or an interaction, behind so many others
+-- an argument of a call or an interaction, after so many others
 abbrev pub argument_at : ℕ → Tree → Shaped Expr
 argument_at i t = if i == 8 then Err (lowest (TooMany (offset_of t)) (expression t)) else expression t
 
--- arguments, behind so many others
+-- arguments, after so many others
 abbrev pub arguments_from : ℕ → List Tree → Shaped (List Expr)
 arguments_from i [] = Ok []
 arguments_from i (t ∷ ts) = (λ p. p.0 ∷ p.1) <$> both (argument_at i t) (arguments_from (i + 1) ts)
 
--- what a tree stands for where a command is asked for, and where commands behind a word are
+-- what a tree stands for where a command is asked for, and where commands after a word are
 pub record Places : Type 0 where
   pub command : Shaped Cmd
   pub behind : List ℕ → Shaped (List Cmd)
@@ -279,7 +277,7 @@ abbrev pub command_of : ℕ → List WithPlaces → Shaped Cmd
 command_of at [] = Err (BadForm at)
 command_of at (head ∷ parts) = form_of at (cmd_word (word_of head.0)) parts
 
--- a list of these items at a place that asks for commands behind this word
+-- a list of these items at a place that asks for commands after this word
 abbrev pub behind_of : ℕ → List WithPlaces → List ℕ → Shaped (List Cmd)
 behind_of at [] word = Err (BadForm at)
 behind_of at (head ∷ body) word = if bytes_eq (word_of head.0) word then body_of body else Err (BadForm at)
@@ -339,8 +337,3 @@ Denotes trees funcs = functions trees ≡ Ok funcs
 -- the lowest fault of shape in the trees
 abbrev pub IsShapeFault : List Tree → ShapeFault → Type 0
 IsShapeFault trees fault = functions trees ≡ Err fault
-
--- what holds of a fault, where the answer is not want of memory
-abbrev pub IfFault : {F : Type 0} → OrMemory F → (F → Type 0) → Type 0
-IfFault Memory P = ⊤
-IfFault (Fault fault) P = P fault

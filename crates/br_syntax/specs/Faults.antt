@@ -1,18 +1,17 @@
 -- All faults of shape that stand in trees, by the kinds of tree that their places ask for.
-use Rattle.std.specs.Prelude.{ℕ, ◌+◌, ◌≤◌, List, [], ◌∷◌, ◌++◌, Option, Some, None, length, map, nat_le, ◌==◌, if◌then◌else◌, codes}
-use Rattle.std.specs.List.{flat_map, list_any, All, Contains}
+use Rattle.std.specs.Prelude.{ℕ, ◌+◌, List, [], ◌∷◌, ◌++◌, Option, Some, None, length, map, nat_le, ◌==◌, if◌then◌else◌, codes}
+use Rattle.std.specs.List.{flat_map, list_any}
 use Rattle.std.specs.Str.{bytes_eq}
 use Rattle.br_sexpr.specs.declared.tree.Tree.{Tree, out-Tree}
 use Rattle.br_sexpr.specs.declared.tree.Tree.TheOpen.{Tree-F}
 use Rattle.br_sexpr.specs.declared.tree.Tree.TheOpen.Tree-F.{Name, Number, List as Items}
 use Rattle.br_sexpr.specs.declared.tree.Tree.TheFolds.{para-Tree}
-use Rattle.br_syntax.specs.declared.fault.ShapeFault.{ShapeFault}
-use Rattle.br_syntax.specs.declared.fault.ShapeFault.TheVariants.{BadForm, BadSize, BadByteValue, TooMany, Repeated}
+use Rattle.br_syntax.specs.declared.faults.ShapeFault.{ShapeFault}
+use Rattle.br_syntax.specs.declared.faults.ShapeFault.TheVariants.{BadForm, BadSize, BadByteValue, TooMany, Repeated}
 use Rattle.br_syntax.specs.declared.word.ExprWord.{ExprWord}
 use Rattle.br_syntax.specs.declared.word.ExprWord.TheVariants as e
 use Rattle.br_syntax.specs.declared.word.CmdWord.{CmdWord}
 use Rattle.br_syntax.specs.declared.word.CmdWord.TheVariants as c
-use Rattle.br_syntax.specs.Fault.{place}
 use Rattle.br_syntax.specs.Shape.{is_buffer_size}
 use Rattle.br_syntax.specs.Word.{expr_word, cmd_word}
 use Rattle.br_syntax.specs.Denotes.{offset_of, word_of}
@@ -27,7 +26,7 @@ in_name (Name at text) = []
 in_name (Number at value) = BadForm at ∷ []
 in_name (Items at items) = BadForm at ∷ []
 
--- an item of a list of names, behind these items
+-- an item of a list of names, after these items
 abbrev pub in_name_after : {X : Type 0} → List Tree → Tree-F X → Faults
 in_name_after earlier (Name at text) =
     (if length earlier == 8 then TooMany at ∷ [] else [])
@@ -35,7 +34,7 @@ in_name_after earlier (Name at text) =
 in_name_after earlier (Number at value) = BadForm at ∷ []
 in_name_after earlier (Items at items) = BadForm at ∷ []
 
--- items of a list of names, behind these items
+-- items of a list of names, after these items
 abbrev pub in_names_after : List Tree → List Tree → Faults
 in_names_after earlier [] = []
 in_names_after earlier (t ∷ ts) = in_name_after earlier (out-Tree t) ++ in_names_after (earlier ++ t ∷ []) ts
@@ -111,13 +110,13 @@ in_expression_layer (Items at items) = in_items at items
 abbrev pub in_expression : Tree → Faults
 in_expression = para-Tree Faults in_expression_layer
 
--- arguments, behind so many others
+-- arguments, after so many others
 abbrev pub in_arguments_from : ℕ → List Tree → Faults
 in_arguments_from i [] = []
 in_arguments_from i (t ∷ ts) =
     ((if i == 8 then TooMany (offset_of t) ∷ [] else []) ++ in_expression t) ++ in_arguments_from (i + 1) ts
 
--- the faults in a tree where a command is asked for, and where commands behind a word are
+-- the faults in a tree where a command is asked for, and where commands after a word are
 pub record FaultPlaces : Type 0 where
   pub command : Faults
   pub behind : List ℕ → Faults
@@ -157,7 +156,7 @@ abbrev pub in_command_items : ℕ → List WithFaultPlaces → Faults
 in_command_items at [] = BadForm at ∷ []
 in_command_items at (head ∷ parts) = in_form at (cmd_word (word_of head.0)) parts
 
--- a list of these items at a place that asks for commands behind this word
+-- a list of these items at a place that asks for commands after this word
 abbrev pub in_behind_items : ℕ → List WithFaultPlaces → List ℕ → Faults
 in_behind_items at [] word = BadForm at ∷ []
 in_behind_items at (head ∷ body) word = if bytes_eq (word_of head.0) word then in_body body else BadForm at ∷ []
@@ -193,8 +192,3 @@ in_function (Items at items) = in_function_items at items
 -- all faults of shape in trees
 abbrev pub all_faults : List Tree → Faults
 all_faults trees = flat_map (λ t. in_function (out-Tree t)) trees
-
--- one of the faults, and none of them is lower
-pub record IsLowest (faults : Faults) (fault : ShapeFault) : Type 0 where
-  pub stands : Contains faults fault
-  pub lowest : All (λ other. place fault ≤ place other) faults

@@ -1,8 +1,8 @@
 pub mod Denotes
-pub mod Fault
+pub mod FaultOrder
 pub mod Faults
 pub mod Functions
-pub mod Law
+pub mod Laws
 pub mod NameFaults
 pub mod Offsets
 pub mod Shape

@@ -1,7 +1,7 @@
 -- What a tree stands for at a place, or its lowest fault.
 use Rattle.std.specs.Prelude.{List, [], ◌∷◌, ◌++◌, Result, Ok, Err}
-use Rattle.br_syntax.specs.declared.fault.ShapeFault.{ShapeFault}
-use Rattle.br_syntax.specs.Fault.{lower}
+use Rattle.br_syntax.specs.declared.faults.ShapeFault.{ShapeFault}
+use Rattle.br_syntax.specs.FaultOrder.{lower}
 
 -- what a tree stands for, or the lowest of the faults in it
 abbrev pub Shaped : Type 0 → Type 0

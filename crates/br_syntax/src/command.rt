@@ -4,7 +4,7 @@ ghost use Rattle.std.specs.Prelude.{◌≡◌, IfOk, map};
 ghost use Rattle.br_syntax.specs.Denotes.{Places, places, with_places, command, command_of, form_of, skip_of, set_of, unset_of, store_of, stackalloc_of, if_of, while_of, seq_of, call_of, interact_of, target_of, behind_of, commands};
 
 use crate::expression::{arguments, expression};
-use crate::fault::ShapeFault;
+use crate::faults::ShapeFault;
 use crate::part::{buffer_size, name, names};
 use crate::program::{Cmd, Expr};
 use crate::shaped::{Shaped, both, push};
@@ -224,7 +224,7 @@ fn target(
     Ok(both(front, arguments(alloc, args)?))
 }
 
-// A place that asks for commands behind this word.
+// A place that asks for commands after this word.
 #[cycle(command)]
 #[tactic(auto, using(crate::proofs::Equations::commands))]
 fn branch(alloc: Global, first: &[u8], tree: &Tree) -> Result<Shaped<Items<Cmd>>, NoMemory>

@@ -3,7 +3,7 @@
 ghost use Rattle.std.specs.Prelude.{◌≡◌, IfOk, map};
 ghost use Rattle.br_syntax.specs.Denotes.{expression, expression_of, of_two, of_three, of_four, with_expression, argument_at, arguments_from, load_of, table_of, operation_of, ite_of};
 
-use crate::fault::ShapeFault;
+use crate::faults::ShapeFault;
 use crate::part::{MOST_NAMES, bytes};
 use crate::program::Expr;
 use crate::shaped::{Shaped, both, lowest, push};
@@ -178,7 +178,7 @@ pub fn arguments(alloc: Global, items: &[Tree]) -> Result<Shaped<Items<Expr>>, N
     Ok(found)
 }
 
-// An argument behind so many others.
+// An argument after so many others.
 fn argument_at(alloc: Global, i: usize, item: &Tree) -> Result<Shaped<Expr>, NoMemory>
     ensures { IfOk result (λ r. r ≡ argument_at i item.now) }
 {

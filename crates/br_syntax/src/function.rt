@@ -1,10 +1,11 @@
 // Trees as functions and programs.
 
 ghost use Rattle.std.specs.Prelude.{◌≡◌, IfOk, IfErr};
-ghost use Rattle.br_syntax.specs.Denotes.{function, function_list, function_of, functions, Denotes, IsShapeFault, IfFault};
+ghost use Rattle.br_base.specs.Faults.{IfFault};
+ghost use Rattle.br_syntax.specs.Denotes.{function, function_list, function_of, functions, Denotes, IsShapeFault};
 
 use crate::command::commands;
-use crate::fault::ShapeFault;
+use crate::faults::ShapeFault;
 use crate::part::{name, names};
 use crate::program::{Func, Program};
 use crate::shaped::{Shaped, both, push};

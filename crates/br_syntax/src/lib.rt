@@ -3,9 +3,9 @@
 
 mod command;
 mod expression;
-mod fault;
+mod faults;
 mod function;
-mod law;
+mod laws;
 mod part;
 mod program;
 mod shaped;
@@ -16,8 +16,8 @@ mod write_cmd;
 mod write_expr;
 mod write_program;
 
-pub use fault::ShapeFault;
+pub use faults::ShapeFault;
 pub use function::from_tree;
-pub use law::{offsets_left_out, one_meaning};
+pub use laws::{offsets_left_out, one_meaning};
 pub use program::{Cmd, Expr, Func, Program};
 pub use write_program::to_tree;

@@ -4,11 +4,11 @@ ghost use Rattle.std.specs.Prelude.{◌≡◌, IfOk, [], map};
 ghost use Rattle.std.specs.List.{list_any};
 ghost use Rattle.std.specs.Str.{bytes_eq};
 ghost use Rattle.br_sexpr.specs.declared.tree.Tree.{out-Tree};
-ghost use Rattle.br_syntax.specs.declared.fault.ShapeFault.TheVariants.{BadForm};
+ghost use Rattle.br_syntax.specs.declared.faults.ShapeFault.TheVariants.{BadForm};
 ghost use Rattle.br_syntax.specs.Shaped.{all};
 ghost use Rattle.br_syntax.specs.Denotes.{offset_of, word_of, name, names, names_after, name_among, buffer_size, bytes, byte};
 
-use crate::fault::ShapeFault;
+use crate::faults::ShapeFault;
 use crate::shaped::{Shaped, push};
 use crate::word::{offset, word};
 use br_base::{Name, NoMemory};

@@ -3,7 +3,7 @@
 ghost use Rattle.std.specs.Prelude.{◌≡◌, IfOk};
 ghost use Rattle.br_syntax.specs.Shaped.{both, lowest, with_one};
 
-use crate::fault::ShapeFault;
+use crate::faults::ShapeFault;
 use br_base::NoMemory;
 use sqlite_items::Items;
 

@@ -2,7 +2,7 @@
 
 use crate::{Cmd, Program, ShapeFault, from_tree, to_tree};
 use br_base::OrMemory;
-use br_sexpr::{Tree, read};
+use br_sexpr::{Tree, print, read};
 use sqlite_items::Items;
 use std::alloc::Global;
 use std::test::Fail;
@@ -137,6 +137,27 @@ fn a_program_and_its_trees(rt: HostRuntime) -> Result<(), Fail> {
     match trees.as_slice() {
         [Tree::List { at, items }] => assert_eq!(rt; (*at, items.len()), (0, 6)),
         _ => return Err(Fail::new("other trees")),
+    }
+    Ok(())
+}
+
+#[test]
+fn programs_are_written_as_they_are_read(rt: HostRuntime) -> Result<(), Fail> {
+    for (text, written) in [
+        (
+            "(fn  f (a)(r) ; note\n (set r (ite a 0x10 (load1 a))))",
+            "(fn f (a) (r) (set r (ite a 16 (load1 a))))\n",
+        ),
+        (
+            "(fn f () () (stackalloc b 8 (interact () g b)) (if 1 (then (skip)) (else)))",
+            "(fn f () () (stackalloc b 8 (interact () g b)) (if 1 (then (skip)) (else)))\n",
+        ),
+        ("(fn f () ())(fn g () ())", "(fn f () ())\n(fn g () ())\n"),
+    ] {
+        let program = program_of(rt.alloc(), text)?;
+        let trees = to_tree(rt.alloc(), &program)?;
+        let printed = print(rt.alloc(), trees.as_slice())?;
+        assert_eq!(rt; printed.as_slice(), written.as_bytes());
     }
     Ok(())
 }

@@ -138,7 +138,7 @@ fn while_tree(alloc: Global, test: &Expr, body: &[Cmd]) -> Result<Tree, NoMemory
     Ok(Tree::List { at: 0, items })
 }
 
-// Commands behind a word.
+// Commands after a word.
 #[cycle(cmd_tree)]
 fn body_tree(alloc: Global, word: &[u8], body: &[Cmd]) -> Result<Tree, NoMemory>
     requires name { IsName word.now }

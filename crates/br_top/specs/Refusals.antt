@@ -4,10 +4,10 @@ use Rattle.std.specs.List.{flat_map}
 use Rattle.std.specs.Fmt.{decimal}
 use Rattle.br_sexpr.specs.declared.tree.TextFault.{TextFault}
 use Rattle.br_sexpr.specs.declared.tree.TextFault.TheVariants.{BadByte, BadNumber, ExtraClose, Unclosed, TooDeep}
-use Rattle.br_syntax.specs.declared.fault.ShapeFault.{ShapeFault}
-use Rattle.br_syntax.specs.declared.fault.ShapeFault.TheVariants.{BadForm, BadSize, BadByteValue, TooMany, Repeated}
-use Rattle.br_measure.specs.declared.fault.NameFault.{NameFault}
-use Rattle.br_measure.specs.declared.fault.NameFault.TheVariants.{DuplicateFunction, UnknownFunction, WrongArguments, WrongResults, UnknownAction, TooLarge, Recursion, StackTooDeep}
+use Rattle.br_syntax.specs.declared.faults.ShapeFault.{ShapeFault}
+use Rattle.br_syntax.specs.declared.faults.ShapeFault.TheVariants.{BadForm, BadSize, BadByteValue, TooMany, Repeated}
+use Rattle.br_measure.specs.declared.faults.NameFault.{NameFault}
+use Rattle.br_measure.specs.declared.faults.NameFault.TheVariants.{DuplicateFunction, UnknownFunction, WrongArguments, WrongResults, UnknownAction, TooLarge, Recursion, StackTooDeep}
 use Rattle.br_compile.specs.declared.refusal.Refusal.{Refusal}
 use Rattle.br_compile.specs.declared.refusal.Refusal.TheVariants.{InputTooLong, Text, Shape, Names, NotYet}
 use Rattle.br_image.specs.declared.faults.ImageFault.{ImageFault}

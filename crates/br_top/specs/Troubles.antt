@@ -5,8 +5,8 @@ use Rattle.br_base.specs.declared.source.ReadEnd.TheVariants.{Memory as NoRoom, 
 use Rattle.br_base.specs.declared.failure.OrMemory.{OrMemory}
 use Rattle.br_base.specs.declared.failure.OrMemory.TheVariants.{Memory as Wanting, Fault}
 use Rattle.br_sexpr.specs.declared.tree.TextFault.{TextFault}
-use Rattle.br_syntax.specs.declared.fault.ShapeFault.{ShapeFault}
-use Rattle.br_measure.specs.declared.fault.NameFault.{NameFault}
+use Rattle.br_syntax.specs.declared.faults.ShapeFault.{ShapeFault}
+use Rattle.br_measure.specs.declared.faults.NameFault.{NameFault}
 use Rattle.br_image.specs.declared.faults.ImageFault.{ImageFault}
 use Rattle.br_image.specs.declared.scripts.values.ScriptFault.{ScriptFault}
 use Rattle.br_compile.specs.declared.refusal.Refusal.{Refusal}

@@ -6,7 +6,7 @@ use Rattle.br_compile.specs.SumCode.{command_code}
 use Rattle.br_compile.proofs.Putting.{PutSoFar, none_put, one_more_put, all_put, one_without}
 use Rattle.br_compile.proofs.writes.put_commands.Goals as goal
 
--- the command at an index, and those behind it
+-- the command at an index, and those after it
 next : (cs : List Cmd) (i : ℕ) (c : Cmd) → i < length cs → c ≡ get_or cs i c → drop i cs ≡ c ∷ drop (i + 1) cs
 next cs i c h is = rw (add-one, drop-cons cs i c, ← is) refl
 

@@ -1,10 +1,11 @@
 -- Laws of what trees stand for.
 use Rattle.std.specs.Prelude.{◌≡◌, ◌⊎◌, List, []}
 use Rattle.br_sexpr.specs.declared.tree.Tree.{Tree}
-use Rattle.br_syntax.specs.declared.fault.ShapeFault.{ShapeFault}
+use Rattle.br_syntax.specs.declared.faults.ShapeFault.{ShapeFault}
 use Rattle.br_syntax.specs.declared.program.Func.{Func}
 use Rattle.br_syntax.specs.Denotes.{Denotes, IsShapeFault}
-use Rattle.br_syntax.specs.Faults.{all_faults, IsLowest}
+use Rattle.br_syntax.specs.FaultOrder.{place, IsLowest}
+use Rattle.br_syntax.specs.Faults.{all_faults}
 use Rattle.br_syntax.specs.Offsets.{without_offsets, IsEqualUpToOffsets}
 use Rattle.br_syntax.specs.Shape.{IsShaped}
 
@@ -30,7 +31,7 @@ KeepsLimits trees = (funcs : List Func) → Denotes trees funcs → IsShaped fun
 
 -- the fault of the trees is the lowest of all faults that stand in them
 abbrev pub FaultIsLowest : List Tree → Type 0
-FaultIsLowest trees = (fault : ShapeFault) → IsShapeFault trees fault → IsLowest (all_faults trees) fault
+FaultIsLowest trees = (fault : ShapeFault) → IsShapeFault trees fault → IsLowest place (all_faults trees) fault
 
 -- no fault stands in trees that stand for a program
 abbrev pub NoneStands : List Tree → Type 0

@@ -26,7 +26,7 @@ pub enum ShapeFault {
 }
 
 impl ShapeFault {
-    ghost use Rattle.br_syntax.specs.Fault.{place, lower};
+    ghost use Rattle.br_syntax.specs.FaultOrder.{place, lower};
 
     // Faults in their order: by offset, and at one offset by variant.
     fn place(self) -> u64

@@ -1,7 +1,7 @@
 -- Proofs of the laws.
 use Rattle.std.proofs.Common.{◌≡◌, ◌⊎◌, ℕ, List, [], ◌∷◌, Ok, Err, map, refl, sym, ap, ◌∙◌, subst, inl, inr}
 use Rattle.br_sexpr.specs.declared.tree.Tree.{Tree}
-use Rattle.br_syntax.specs.declared.fault.ShapeFault.{ShapeFault}
+use Rattle.br_syntax.specs.declared.faults.ShapeFault.{ShapeFault}
 use Rattle.br_words.specs.declared.size.Size.{Size}
 use Rattle.br_syntax.specs.declared.program.Expr.{Expr}
 use Rattle.br_syntax.specs.declared.program.Cmd.{Cmd, roll-Cmd}
@@ -10,7 +10,7 @@ use Rattle.br_syntax.specs.declared.program.Cmd.TheOpen.{Cmd-F}
 use Rattle.br_syntax.specs.declared.program.Cmd.TheFolds.{map-Cmd, ind-Cmd, fold-roll-Cmd}
 use Rattle.br_syntax.specs.declared.program.Func.{Func}
 use Rattle.br_syntax.specs.Denotes.{functions}
-use Rattle.br_syntax.specs.Law.{HasMeaning, AtMostOneProgram, AtMostOneFault, NeverBoth, KeepsLimits, FaultIsLowest, NoneStands, UnplacedAgain}
+use Rattle.br_syntax.specs.Laws.{HasMeaning, AtMostOneProgram, AtMostOneFault, NeverBoth, KeepsLimits, FaultIsLowest, NoneStands, UnplacedAgain}
 use Rattle.br_syntax.specs.Offsets.{unplaced, unplaced_step, unplaced_function}
 use Rattle.br_syntax.specs.Shaped.{Shaped}
 use Rattle.br_syntax.proofs.Kept.{denoted_is_shaped}
