@@ -3,3 +3,16 @@ pub mod Expressions
 pub mod Pieces
 pub mod Commands
 pub mod Programs
+pub mod AddedNames
+pub mod LeastAbove
+pub mod Fine
+pub mod ExpressionSizes
+pub mod StatementNames
+pub mod CommandSizes
+pub mod FirstPlaces
+pub mod ProgramSizes
+pub mod DifferentNames
+pub mod NumberedNames
+pub mod VariableParts
+pub mod Weights
+pub mod Members

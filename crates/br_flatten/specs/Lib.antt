@@ -1,2 +1,4 @@
 pub mod Flatten
+pub mod Places
+pub mod Numbering
 pub mod Meaning

@@ -1,10 +1,20 @@
 //! From the source language to flat programs: expressions become statements, and variables and
-//! functions become numbers. Here stand the definition of the flat statements of a program, and the law
-//! that they refine it. The function that makes them is to come, with the laws that its answer is well
-//! formed and within the sizes of the text; and so are the shorter forms of statements, such as
-//! constants as operands, byte offsets and comparisons in tests.
+//! functions become numbers. Here stand the definition of the flat statements of a program, the law
+//! that they refine it, and the function that makes them. Shorter forms of statements, such as
+//! constants as operands, byte offsets and comparisons in tests, are to come.
 #![tactic(auto)]
 
+mod flattening;
+mod highest;
 mod laws;
+mod numbering;
+mod operands;
+mod places;
+mod scope;
+mod statements;
 
+pub use flattening::flatten;
 pub use laws::flat_programs_refine;
+
+#[cfg(test)]
+mod tests;

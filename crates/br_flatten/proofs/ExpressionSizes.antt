@@ -1,0 +1,262 @@
+-- The sizes of the statements of expressions.
+use Rattle.std.proofs.Common.{◌≡◌, ℕ, suc, ◌+◌, ◌-◌, ◌<◌, ◌≤◌, max, Bool, true, ◌&&◌, List, [], ◌∷◌, ◌++◌, map, length, Option, Some, None, refl, sym, ap, subst, arith, pos}
+use Rattle.std.proofs.lemmas.List.{length-append}
+use Rattle.std.proofs.lemmas.List.Sums.{sum-map, sum_by-cons}
+use Rattle.br_words.specs.declared.size.Size.{Size}
+use Rattle.br_words.specs.declared.operation.BinOp.{BinOp}
+use Rattle.br_syntax.specs.declared.program.Expr.{Expr, map-Expr}
+use Rattle.br_syntax.specs.declared.program.Expr.TheOpen.{Expr-F}
+use Rattle.br_syntax.specs.declared.program.Expr.TheViews.{roll-Expr}
+use Rattle.br_syntax.specs.declared.program.Expr.TheFolds.{fold-roll-Expr, ind-Expr}
+use Rattle.br_source_meaning.specs.Values.{Name}
+use Rattle.br_measure.specs.Bulk as bulk
+use Rattle.br_measure.specs.Bulk.{expression_bulk, expressions_bulk}
+use Rattle.br_flatimp.specs.declared.program.Operand.TheVariants as operand
+use Rattle.br_flatimp.specs.declared.program.Cond.TheVariants.{NonZero}
+use Rattle.br_flatimp.specs.declared.program.Stmt.{Stmt}
+use Rattle.br_flatimp.specs.declared.program.Stmt.TheOpen.{Stmt-F}
+use Rattle.br_flatimp.specs.declared.program.Stmt.TheViews.{roll-Stmt}
+use Rattle.br_flatimp.specs.declared.program.FlatFunc.{FlatFunc}
+use Rattle.br_flatimp.specs.Sizes.{words_for}
+use Rattle.br_flatten.specs.Flatten.{above, number, is_listed, lists_step, lists_expression, lists_expressions, Flat, place, next, code, codes_of, places_of, expression_step, expression}
+use Rattle.br_flatten.specs.Places.{variables_step, expression_variables, expressions_variables}
+use Rattle.br_flatten.proofs.Numbers.{and-first, and-second, number-below}
+use Rattle.br_flatten.proofs.Fine.{Fine, fine-none, fine-append, fine-within, fine-one, fine-if}
+
+-- An expression's statements, where its variables and a weight make its bulk. The weight bounds its
+-- temporaries.
+pub record Sized (fs : List FlatFunc) (n : ℕ) (lists : Bool) (size : ℕ) (vs : List Name) (flat : Flat) : Type 0 where
+  pub weight : ℕ
+  pub split : length vs + weight ≡ size
+  pub variable : (y : ℕ) → flat.variable ≡ Some y → lists ≡ true → y < n
+  pub some : flat.variable ≡ None → 0 < weight
+  pub into : (x free : ℕ) → lists ≡ true → n ≤ free → Fine fs (max (suc x) (free + (weight - 1))) size 0 [] (flat.into x free)
+
+-- an operand's statements, its place, and what is free after it
+pub record Coded (fs : List FlatFunc) (size weight free : ℕ) (flat : Flat) : Type 0 where
+  pub body : Fine fs (free + weight) size 0 [] (code flat free)
+  pub at : place flat.variable free < free + weight + 1
+  pub below : place flat.variable free + 1 ≤ free + weight
+  pub after : next flat.variable free ≤ free + weight
+  pub grows : free ≤ next flat.variable free
+
+pub coded : (fs : List FlatFunc) (n : ℕ) (lists : Bool) (size : ℕ) (vs : List Name) (flat : Flat) → (e : Sized fs n lists size vs flat) → lists ≡ true → (free : ℕ) → n ≤ free → Coded fs size e.weight free flat
+coded fs n lists size vs flat e listed free le = by flat.variable refl
+  where
+    by : (o : Option ℕ) → flat.variable ≡ o → Coded fs size e.weight free (record { variable = o; into = flat.into })
+    by (Some y) is =
+        let below = e.variable y is listed in
+        record { body = fine-none fs (free + e.weight) size 0; at = omega (arith, below, le); below = omega (arith, below, le); after = omega arith; grows = omega arith }
+    by None is =
+        let some = e.some is in
+        record {
+          body = fine-within fs (max (suc free) (suc free + (e.weight - 1))) size 0 (free + e.weight) size 0 [] (flat.into free (suc free)) (omega (arith, some)) (omega arith) (omega arith) (e.into free (suc free) listed (omega (arith, le)));
+          at = omega (arith, some);
+          below = omega (arith, some);
+          after = omega (arith, some);
+          grows = omega arith;
+        }
+
+-- ---- the forms
+
+none_is_not : {A : Type 0} (y : ℕ) → None ≡ Some y → A
+none_is_not y e = absurd (cc e)
+
+literal-sized : (fs : List FlatFunc) (names : List Name) (n : ℕ) → Sized fs (length names) true 1 [] (expression_step names (Expr-F.Literal n))
+literal-sized fs names n = record {
+  weight = 1;
+  split = refl;
+  variable = λ y e listed. none_is_not y e;
+  some = λ e. omega arith;
+  into = λ x free listed le. fine-one fs (max (suc x) (free + (1 - 1))) 1 0 [] (Stmt-F.Lit x n) (omega arith) (omega arith) (omega arith) refl refl;
+}
+
+variable-sized : (fs : List FlatFunc) (names : List Name) (z : Name) → Sized fs (length names) (is_listed names z) 1 (z ∷ []) (expression_step names (Expr-F.Var z))
+variable-sized fs names z = record {
+  weight = 0;
+  split = refl;
+  variable = λ y e listed. let same : number names z ≡ y = cc e in subst (λ q. q < length names) same (number-below names z listed);
+  some = λ e. absurd (cc e);
+  into = λ x free listed le.
+      let below = number-below names z listed in
+      fine-one fs (max (suc x) (free + (0 - 1))) 1 0 [] (Stmt-F.Copy x (number names z)) (omega (arith, below, le)) (omega arith) (omega arith) refl refl;
+}
+
+load-sized : (fs : List FlatFunc) (names : List Name) (lists : Bool) (a : ℕ) (vs : List Name) (flat : Flat) → Sized fs (length names) lists a vs flat → (size : Size)
+    → Sized fs (length names) lists (1 + a) vs (expression_step names (Expr-F.Load size flat))
+load-sized fs names lists a vs flat e size = record {
+  weight = 1 + e.weight;
+  split = let split = e.split in omega (arith, split);
+  variable = λ y e listed. none_is_not y e;
+  some = λ e. omega arith;
+  into = λ x free listed le.
+      let c = coded fs (length names) lists a vs flat e listed free le in
+      let below = c.below in
+      let top = max (suc x) (free + (1 + e.weight - 1)) in
+      let last = fine-one fs top 1 0 [] (Stmt-F.Load x size (place flat.variable free) (pos 0)) (omega (arith, below)) (omega arith) (omega arith) refl refl in
+      fine-within fs top (a + 1) 0 top (1 + a) 0 [] (code flat free ++ roll-Stmt (Stmt-F.Load x size (place flat.variable free) (pos 0)) ∷ []) (omega arith) (omega arith) (omega arith)
+      (fine-append fs top a 1 0 [] [] (code flat free) (roll-Stmt (Stmt-F.Load x size (place flat.variable free) (pos 0)) ∷ [])
+      (fine-within fs (free + e.weight) a 0 top a 0 [] (code flat free) (omega arith) (omega arith) (omega arith) c.body) last);
+}
+
+table-sized : (fs : List FlatFunc) (names : List Name) (lists : Bool) (a : ℕ) (vs : List Name) (flat : Flat) → Sized fs (length names) lists a vs flat → (size : Size) (bytes : List ℕ)
+    → Sized fs (length names) lists (1 + words_for (length bytes) + a) vs (expression_step names (Expr-F.Table size bytes flat))
+table-sized fs names lists a vs flat e size bytes = record {
+  weight = 1 + words_for (length bytes) + e.weight;
+  split = let split = e.split in omega (arith, split);
+  variable = λ y e listed. none_is_not y e;
+  some = λ e. omega arith;
+  into = λ x free listed le.
+      let c = coded fs (length names) lists a vs flat e listed free le in
+      let below = c.below in
+      let words = words_for (length bytes) in
+      let top = max (suc x) (free + (1 + words + e.weight - 1)) in
+      let last = fine-one fs top (1 + words) 0 [] (Stmt-F.Table x size bytes (place flat.variable free)) (omega (arith, below)) (omega arith) (omega arith) refl refl in
+      fine-within fs top (a + (1 + words)) 0 top (1 + words + a) 0 [] (code flat free ++ roll-Stmt (Stmt-F.Table x size bytes (place flat.variable free)) ∷ []) (omega arith) (omega arith) (omega arith)
+      (fine-append fs top a (1 + words) 0 [] [] (code flat free) (roll-Stmt (Stmt-F.Table x size bytes (place flat.variable free)) ∷ [])
+      (fine-within fs (free + e.weight) a 0 top a 0 [] (code flat free) (omega arith) (omega arith) (omega arith) c.body) last);
+}
+
+op-sized : (fs : List FlatFunc) (names : List Name) (lists more : Bool) (a b : ℕ) (vs ws : List Name) (one two : Flat) → Sized fs (length names) lists a vs one → Sized fs (length names) more b ws two → (op : BinOp)
+    → Sized fs (length names) (lists && more) (1 + a + b) (vs ++ ws) (expression_step names (Expr-F.Op op one two))
+op-sized fs names lists more a b vs ws one two e f op = record {
+  weight = 1 + e.weight + f.weight;
+  split = let split = e.split in let split' = f.split in let len = length-append vs ws in omega (arith, split, split', len);
+  variable = λ y e listed. none_is_not y e;
+  some = λ e. omega arith;
+  into = λ x free listed le.
+      let c = coded fs (length names) lists a vs one e (and-first lists more listed) free le in
+      let below = c.below in
+      let after = c.after in
+      let grows = c.grows in
+      let then = next one.variable free in
+      let d = coded fs (length names) more b ws two f (and-second lists more listed) then (omega (arith, le, grows)) in
+      let below' = d.below in
+      let top = max (suc x) (free + (1 + e.weight + f.weight - 1)) in
+      let y : Stmt-F Stmt = Stmt-F.Op x op (place one.variable free) (operand.Name (place two.variable then)) in
+      let last = fine-one fs top 1 0 [] y (omega (arith, below, below', after)) (omega arith) (omega arith) refl refl in
+      let rest = fine-append fs top b 1 0 [] [] (code two then) (roll-Stmt y ∷ []) (fine-within fs (then + f.weight) b 0 top b 0 [] (code two then) (omega (arith, after)) (omega arith) (omega arith) d.body) last in
+      fine-within fs top (a + (b + 1)) 0 top (1 + a + b) 0 [] (code one free ++ (code two then ++ roll-Stmt y ∷ [])) (omega arith) (omega arith) (omega arith)
+      (fine-append fs top a (b + 1) 0 [] [] (code one free) (code two then ++ roll-Stmt y ∷ [])
+      (fine-within fs (free + e.weight) a 0 top a 0 [] (code one free) (omega arith) (omega arith) (omega arith) c.body) rest);
+}
+
+ite-sized : (fs : List FlatFunc) (names : List Name) (tests lists more : Bool) (c a b : ℕ) (us vs ws : List Name) (test one two : Flat)
+    → Sized fs (length names) tests c us test → Sized fs (length names) lists a vs one → Sized fs (length names) more b ws two
+    → Sized fs (length names) (tests && (lists && more)) (1 + c + a + b) (us ++ (vs ++ ws)) (expression_step names (Expr-F.Ite test one two))
+ite-sized fs names tests lists more c a b us vs ws test one two g e f = record {
+  weight = 1 + g.weight + e.weight + f.weight;
+  split =
+      let split = g.split in let split' = e.split in let split'' = f.split in
+      let len = length-append us (vs ++ ws) in let len' = length-append vs ws in omega (arith, split, split', split'', len, len');
+  variable = λ y e listed. none_is_not y e;
+  some = λ e. omega arith;
+  into = λ x free listed le.
+      let rest = and-second tests (lists && more) listed in
+      let k = coded fs (length names) tests c us test g (and-first tests (lists && more) listed) free le in
+      let below = k.below in
+      let top = max (suc x) (free + (1 + g.weight + e.weight + f.weight - 1)) in
+      let A = one.into x free in
+      let B = two.into x free in
+      let y : Stmt-F Stmt = Stmt-F.If (NonZero (place test.variable free)) A B in
+      let first = fine-within fs (max (suc x) (free + (e.weight - 1))) a 0 top a 0 [] A (omega arith) (omega arith) (omega arith) (e.into x free (and-first lists more rest) le) in
+      let second = fine-within fs (max (suc x) (free + (f.weight - 1))) b 0 top b 0 [] B (omega arith) (omega arith) (omega arith) (f.into x free (and-second lists more rest) le) in
+      let last = fine-if fs top a b 0 [] [] (place test.variable free) A B (omega (arith, below)) first second in
+      fine-within fs top (c + (1 + a + b)) 0 top (1 + c + a + b) 0 [] (code test free ++ roll-Stmt y ∷ []) (omega arith) (omega arith) (omega arith)
+      (fine-append fs top c (1 + a + b) 0 [] [] (code test free) (roll-Stmt y ∷ [])
+      (fine-within fs (free + g.weight) c 0 top c 0 [] (code test free) (omega arith) (omega arith) (omega arith) k.body) last);
+}
+
+-- ---- every expression
+
+abbrev pub ExpressionSized : List FlatFunc → List Name → Expr → Type 0
+ExpressionSized fs names e = Sized fs (length names) (lists_expression names e) (expression_bulk e) (expression_variables e) (expression names e)
+
+abbrev Known : List FlatFunc → List Name → Type 0
+Known fs names = (e : Expr) × ExpressionSized fs names e
+
+abbrev LayerSized : List FlatFunc → List Name → Expr-F Expr → Type 0
+LayerSized fs names y =
+    Sized fs (length names) (lists_step names (map-Expr Expr Bool (lists_expression names) y)) (bulk.expression_step (map-Expr Expr ℕ expression_bulk y))
+    (variables_step (map-Expr Expr (List Name) expression_variables y)) (expression_step names (map-Expr Expr Flat (expression names) y))
+
+layer : (fs : List FlatFunc) (names : List Name) (y : Expr-F (Known fs names)) → LayerSized fs names (map-Expr (Known fs names) Expr (λ e. e.0) y)
+layer fs names (Expr-F.Literal n) = literal-sized fs names n
+layer fs names (Expr-F.Var x) = variable-sized fs names x
+layer fs names (Expr-F.Load size a) = load-sized fs names (lists_expression names a.0) (expression_bulk a.0) (expression_variables a.0) (expression names a.0) a.1 size
+layer fs names (Expr-F.Table size bytes i) = table-sized fs names (lists_expression names i.0) (expression_bulk i.0) (expression_variables i.0) (expression names i.0) i.1 size bytes
+layer fs names (Expr-F.Op op a b) =
+    op-sized fs names (lists_expression names a.0) (lists_expression names b.0) (expression_bulk a.0) (expression_bulk b.0) (expression_variables a.0) (expression_variables b.0) (expression names a.0) (expression names b.0) a.1 b.1 op
+layer fs names (Expr-F.Ite c a b) =
+    ite-sized fs names (lists_expression names c.0) (lists_expression names a.0) (lists_expression names b.0) (expression_bulk c.0) (expression_bulk a.0) (expression_bulk b.0)
+    (expression_variables c.0) (expression_variables a.0) (expression_variables b.0) (expression names c.0) (expression names a.0) (expression names b.0) c.1 a.1 b.1
+
+pub expression_sized : (fs : List FlatFunc) (names : List Name) (e : Expr) → ExpressionSized fs names e
+expression_sized fs names = ind-Expr (ExpressionSized fs names) (λ x y is.
+    let step = subst (LayerSized fs names) is (layer fs names y) in
+    let lists = fold-roll-Expr Bool (lists_step names) x in
+    let size = fold-roll-Expr ℕ bulk.expression_step x in
+    let vs = fold-roll-Expr (List Name) variables_step x in
+    let flat = fold-roll-Expr Flat (expression_step names) x in
+    let size1 = bulk.expression_step (map-Expr Expr ℕ expression_bulk x) in
+    let vs1 = variables_step (map-Expr Expr (List Name) expression_variables x) in
+    let flat1 = expression_step names (map-Expr Expr Flat (expression names) x) in
+    let one = subst (λ b. Sized fs (length names) b size1 vs1 flat1) (sym lists) step in
+    let two = subst (λ s. Sized fs (length names) (lists_expression names (roll-Expr x)) s vs1 flat1) (sym size) one in
+    let three = subst (λ v. Sized fs (length names) (lists_expression names (roll-Expr x)) (expression_bulk (roll-Expr x)) v flat1) (sym vs) two in
+    subst (λ f. Sized fs (length names) (lists_expression names (roll-Expr x)) (expression_bulk (roll-Expr x)) (expression_variables (roll-Expr x)) f) (sym flat) three)
+
+-- ---- operands in turn
+
+sum-more : (e : Expr) (es : List Expr) → expressions_bulk (e ∷ es) ≡ expression_bulk e + expressions_bulk es
+sum-more e es = omega (arith, sum-map expression_bulk (e ∷ es), sum-map expression_bulk es, sum_by-cons expression_bulk e es)
+
+pub record Operands (fs : List FlatFunc) (names : List Name) (es : List Expr) : Type 0 where
+  pub weight : ℕ
+  pub split : length (expressions_variables es) + weight ≡ expressions_bulk es
+  pub body : (free : ℕ) → lists_expressions names es ≡ true → length names ≤ free → Fine fs (free + weight) (expressions_bulk es) 0 [] (codes_of (map (expression names) es) free)
+  pub places : (free : ℕ) → lists_expressions names es ≡ true → length names ≤ free → above (places_of (map (expression names) es) free) ≤ free + weight
+  pub count : (free : ℕ) → length (places_of (map (expression names) es) free) ≡ length es
+
+pub operands : (fs : List FlatFunc) (names : List Name) (es : List Expr) → Operands fs names es
+operands fs names [] = record {
+  weight = 0;
+  split = refl;
+  body = λ free listed le. fine-none fs (free + 0) 0 0;
+  places = λ free listed le. omega arith;
+  count = λ free. refl;
+}
+operands fs names (e ∷ es) =
+    let one = expression_sized fs names e in
+    let rest = operands fs names es in
+    let n = length names in
+    let lists = lists_expression names e in
+    let more = lists_expressions names es in
+    let flat = expression names e in
+    let size = expression_bulk e in
+    let vs = expression_variables e in
+    record {
+      weight = one.weight + rest.weight;
+      split = let s = one.split in let s' = rest.split in let len = length-append vs (expressions_variables es) in let whole = sum-more e es in omega (arith, s, s', len, whole);
+      body = λ free listed le.
+          let c = coded fs n lists size vs flat one (and-first lists more listed) free le in
+          let after = c.after in
+          let grows = c.grows in
+          let then = next flat.variable free in
+          let top = free + (one.weight + rest.weight) in
+          let others = expressions_bulk es in
+          let body = codes_of (map (expression names) es) then in
+          let whole = sum-more e es in
+          fine-within fs top (size + others) 0 top (expressions_bulk (e ∷ es)) 0 [] (code flat free ++ body) (omega arith) (omega (arith, whole)) (omega arith)
+          (fine-append fs top size others 0 [] [] (code flat free) body
+          (fine-within fs (free + one.weight) size 0 top size 0 [] (code flat free) (omega arith) (omega arith) (omega arith) c.body)
+          (fine-within fs (then + rest.weight) others 0 top others 0 [] body (omega (arith, after)) (omega arith) (omega arith) (rest.body then (and-second lists more listed) (omega (arith, le, grows)))));
+      places = λ free listed le.
+          let c = coded fs n lists size vs flat one (and-first lists more listed) free le in
+          let after = c.after in
+          let grows = c.grows in
+          let below = c.below in
+          let there = rest.places (next flat.variable free) (and-second lists more listed) (omega (arith, le, grows)) in
+          omega (arith, below, after, there);
+      count = λ free. ap suc (rest.count (next flat.variable free));
+    }

@@ -1,0 +1,115 @@
+// The statements of expressions.
+
+ghost use Rattle.std.specs.Prelude.{◌≡◌, ◌≤◌, ◌+◌, ◌++◌, map, IfOk, OnOk};
+ghost use Rattle.br_flatten.specs.Flatten.{code, codes_of, expression, next, place, places_of};
+ghost use Rattle.br_flatten.specs.Numbering.{listed};
+ghost use Rattle.br_measure.specs.Bulk.{expression_bulk, expressions_bulk};
+
+use crate::scope::Scope;
+use br_base::NoMemory;
+use br_flatimp::{Cond, Operand, Stmt};
+use br_syntax::Expr;
+use sqlite_items::Items;
+
+/// Where the word of an operand stands, and the first temporary that is free after it.
+#[derive(Clone, Copy)]
+pub(crate) struct Placed {
+    pub(crate) at: u32,
+    pub(crate) next: u32,
+}
+
+/// Adds the statements that set a name to the word of an expression, where the temporaries from a
+/// number on are free.
+#[cycle(expression)]
+pub(crate) fn into(
+    scope: &Scope,
+    e: &Expr,
+    x: u32,
+    free: u32,
+    out: &mut Items<Stmt>,
+) -> Result<(), NoMemory>
+    requires { free + expression_bulk e.now ≤ 4294967296 }
+    ensures { OnOk result (out.new ≡ out.old ++ (expression (listed scope.now.variables.now.names) e.now).into x free) }
+{
+    match e {
+        Expr::Literal(n) => {
+            out.push(Stmt::Lit(x, *n))?;
+        }
+        Expr::Var(y) => {
+            out.push(Stmt::Copy(x, scope.variable(y)))?;
+        }
+        Expr::Load(size, a) => {
+            let address = operand(scope, a.get(), free, out)?;
+            out.push(Stmt::Load(x, *size, address.at, 0))?;
+        }
+        Expr::Table(size, bytes, i) => {
+            let offset = operand(scope, i.get(), free, out)?;
+            let bytes = Items::from_slice(scope.alloc, bytes.as_slice())?;
+            out.push(Stmt::Table(x, *size, bytes, offset.at))?;
+        }
+        Expr::Op(op, a, b) => {
+            let first = operand(scope, a.get(), free, out)?;
+            let second = operand(scope, b.get(), first.next, out)?;
+            out.push(Stmt::Op(x, *op, first.at, Operand::Name(second.at)))?;
+        }
+        Expr::Ite(test, a, b) => {
+            let test = operand(scope, test.get(), free, out)?;
+            let mut first = Items::new(scope.alloc);
+            into(scope, a.get(), x, free, &mut first)?;
+            let mut second = Items::new(scope.alloc);
+            into(scope, b.get(), x, free, &mut second)?;
+            out.push(Stmt::If(Cond::NonZero(test.at), first, second))?;
+        }
+    }
+    Ok(())
+}
+
+/// Adds the statements of an operand: none where it is a variable, and else those that set the first
+/// free temporary to its word.
+#[cycle(expression)]
+#[tactic(auto, using(crate::proofs::Weights::weights))]
+pub(crate) fn operand(
+    scope: &Scope,
+    e: &Expr,
+    free: u32,
+    out: &mut Items<Stmt>,
+) -> Result<Placed, NoMemory>
+    requires { free + expression_bulk e.now ≤ 4294967295 }
+    ensures code { OnOk result (out.new ≡ out.old ++ code (expression (listed scope.now.variables.now.names) e.now) free) }
+    ensures at { IfOk result (λ p. p.at ≡ place (expression (listed scope.now.variables.now.names) e.now).variable free) }
+    ensures next { IfOk result (λ p. p.next ≡ next (expression (listed scope.now.variables.now.names) e.now).variable free) }
+    ensures room { IfOk result (λ p. p.next ≤ free + expression_bulk e.now) }
+{
+    if let Expr::Var(y) = e {
+        return Ok(Placed {
+            at: scope.variable(y),
+            next: free,
+        });
+    }
+    into(scope, e, free, free + 1, out)?;
+    Ok(Placed {
+        at: free,
+        next: free + 1,
+    })
+}
+
+/// Adds the statements of operands in turn. The answer is where their words stand.
+pub(crate) fn operands(
+    scope: &Scope,
+    es: &[Expr],
+    free: u32,
+    out: &mut Items<Stmt>,
+) -> Result<Items<u32>, NoMemory>
+    requires { free + expressions_bulk es.now ≤ 4294967295 }
+    ensures codes { OnOk result (out.new ≡ out.old ++ codes_of (map (expression (listed scope.now.variables.now.names)) es.now) free) }
+    ensures places { IfOk result (λ ys. ys ≡ places_of (map (expression (listed scope.now.variables.now.names)) es.now) free) }
+{
+    let mut places = Items::new(scope.alloc);
+    let mut free = free;
+    for e in es {
+        let placed = operand(scope, e, free, out)?;
+        places.push(placed.at)?;
+        free = placed.next;
+    }
+    Ok(places)
+}

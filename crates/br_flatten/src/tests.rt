@@ -1,0 +1,191 @@
+// Source texts and their flat statements, worked out by hand.
+
+use crate::flatten;
+use br_flatimp::{Cond, FlatFunc, Operand, Stmt};
+use br_measure::check;
+use br_sexpr::read;
+use br_syntax::from_tree;
+use std::alloc::Global;
+use std::fmt::Write;
+use std::test::Fail;
+
+// The flat functions of a text, one a line.
+fn shown(alloc: Global, text: &str) -> Result<String, Fail> {
+    if text.len() > 1_048_576 {
+        return Err(Fail::new("a long text"));
+    }
+    let program = from_tree(alloc, read(alloc, text.as_bytes())?.as_slice())?;
+    let flat = flatten(alloc, &check(alloc, program)?)?;
+    let mut text = String::new(alloc);
+    for f in flat.funcs.as_slice() {
+        write_function(&mut text, f)?;
+    }
+    Ok(text)
+}
+
+// The arguments, the results, the count of names, and the statements.
+fn write_function(text: &mut String, f: &FlatFunc) -> Result<(), Fail> {
+    write_names(text, f.args.as_slice())?;
+    write!(text, " -> ")?;
+    write_names(text, f.results.as_slice())?;
+    write!(text, " of {}:", f.names)?;
+    write_statements(text, f.body.as_slice())?;
+    write!(text, "\n")?;
+    Ok(())
+}
+
+fn write_names(text: &mut String, names: &[u32]) -> Result<(), Fail> {
+    write!(text, "(")?;
+    for (i, name) in names.iter().enumerate() {
+        if i > 0 {
+            write!(text, " ")?;
+        }
+        write!(text, "{name}")?;
+    }
+    write!(text, ")")?;
+    Ok(())
+}
+
+#[cycle(write)]
+fn write_statements(text: &mut String, body: &[Stmt]) -> Result<(), Fail> {
+    for s in body {
+        write_statement(text, s)?;
+    }
+    Ok(())
+}
+
+#[cycle(write)]
+fn write_statement(text: &mut String, s: &Stmt) -> Result<(), Fail> {
+    match s {
+        Stmt::Lit(x, n) => write!(text, " lit {x} {n};")?,
+        Stmt::Copy(x, y) => write!(text, " copy {x} {y};")?,
+        Stmt::Op(x, op, y, z) => {
+            let second = operand(*z);
+            write!(text, " {op:?} {x} {y} {second};")?;
+        }
+        Stmt::Load(x, size, y, offset) => write!(text, " load {size:?} {x} {y} {offset};")?,
+        Stmt::Store(size, y, z, offset) => write!(text, " store {size:?} {y} {z} {offset};")?,
+        Stmt::Table(x, size, bytes, y) => {
+            let many = bytes.len();
+            write!(text, " table {size:?} {x} {many} {y};")?;
+        }
+        Stmt::Stackalloc(x, n, body) => {
+            write!(text, " stackalloc {x} {n} [")?;
+            write_statements(text, body.as_slice())?;
+            write!(text, " ]")?;
+        }
+        Stmt::If(test, first, second) => {
+            let y = tested(*test);
+            write!(text, " if {y} [")?;
+            write_statements(text, first.as_slice())?;
+            write!(text, " ] [")?;
+            write_statements(text, second.as_slice())?;
+            write!(text, " ]")?;
+        }
+        Stmt::Loop(first, test, last) => {
+            let y = tested(*test);
+            write!(text, " loop [")?;
+            write_statements(text, first.as_slice())?;
+            write!(text, " ] {y} [")?;
+            write_statements(text, last.as_slice())?;
+            write!(text, " ]")?;
+        }
+        Stmt::Call(xs, g, ys) => {
+            write!(text, " call ")?;
+            write_names(text, xs.as_slice())?;
+            write!(text, " {g} ")?;
+            write_names(text, ys.as_slice())?;
+            write!(text, ";")?;
+        }
+        Stmt::Read(x, y) => write!(text, " read {x} {y};")?,
+        Stmt::Write(y, z) => write!(text, " write {y} {z};")?,
+    }
+    Ok(())
+}
+
+// The name that an operand is. A constant is no name.
+fn operand(z: Operand) -> u32 {
+    match z {
+        Operand::Name(y) => y,
+        Operand::Const(_) => 4294967295,
+    }
+}
+
+// The name that a test reads. A comparison reads two.
+fn tested(test: Cond) -> u32 {
+    match test {
+        Cond::NonZero(y) => y,
+        Cond::Compare(_, _, _) => 4294967295,
+    }
+}
+
+#[test]
+fn statements_of_texts(rt: HostRuntime) -> Result<(), Fail> {
+    let alloc = rt.alloc();
+    let rows = [
+        (
+            "(fn main (a) (r) (set r (add (mul a a) 1)))",
+            "(0) -> (1) of 4: Mul 2 0 0; lit 3 1; Add 1 2 3;\n",
+        ),
+        // Variables stand for themselves, and come in the order of their first place.
+        (
+            "(fn f (b a) (r) (set c (sub a b)) (set r c))",
+            "(0 1) -> (2) of 4: Sub 3 1 0; copy 2 3;\n",
+        ),
+        // A temporary is free again in the next operand where no operand holds it.
+        (
+            "(fn f (a) (r) (set r (sub (add a (and a a)) (or a a))))",
+            "(0) -> (1) of 4: And 3 0 0; Add 2 0 3; Or 3 0 0; Sub 1 2 3;\n",
+        ),
+        (
+            "(fn f (p) () (store4 p (load1 (add p 1))) (store2 (add p p) p))",
+            "(0) -> () of 4: lit 3 1; Add 2 0 3; load One 1 2 0; store Four 0 1 0; \
+            Add 1 0 0; store Two 1 0 0;\n",
+        ),
+        (
+            "(fn f (i) (r) (set r (table2 (1 2 3 4) i)) (set i (table1 (7) 0)))",
+            "(0) -> (1) of 3: table Two 1 4 0; lit 2 0; table One 0 1 2;\n",
+        ),
+        // Each part of a conditional expression stands in its branch alone.
+        (
+            "(fn main (a) (r) (set r (ite a (divu 100 a) (load4 0))))",
+            "(0) -> (1) of 3: if 0 [ lit 2 100; Divu 1 2 0; ] [ lit 2 0; load Four 1 2 0; ]\n",
+        ),
+        // A loop computes its test again on each turn.
+        (
+            "(fn main () (r) (set r 0) (while (ltu r 9) (set r (add r 4))))",
+            "() -> (0) of 3: lit 0 0; loop [ lit 2 9; Ltu 1 0 2; ] 1 [ lit 1 4; Add 0 0 1; ]\n",
+        ),
+        (
+            "(fn f (a) (r) (if a (then (set r 1)) (else (unset r) (seq (skip) (set r 2)))))",
+            "(0) -> (1) of 2: if 0 [ lit 1 1; ] [ lit 1 2; ]\n",
+        ),
+        (
+            "(fn f () (r) (stackalloc p 8 (interact (r) MMIOREAD p) (interact () MMIOWRITE p (add r 1))))",
+            "() -> (0) of 4: stackalloc 1 8 [ read 0 1; lit 3 1; Add 2 0 3; write 1 2; ]\n",
+        ),
+        // Functions are numbered in the order of the text, whatever stands first in a call.
+        (
+            "(fn main (x) (y z) (call (y z) g (mul x x) x)) (fn g (a b) (b a))",
+            "(0) -> (1 2) of 4: Mul 3 0 0; call (1 2) 1 (3 0);\n(0 1) -> (1 0) of 2:\n",
+        ),
+        (
+            "(fn main () () (interact () MMIOWRITE 0x1001200C (add 5 7)))",
+            "() -> () of 4: lit 0 268509196; lit 2 5; lit 3 7; Add 1 2 3; write 0 1;\n",
+        ),
+        (
+            "(fn sum (n) (total last) (set total 0) (set last (sub n 1)) \
+            (while n (set total (add total n)) (set n (sub n 1))))",
+            "(0) -> (1 2) of 4: lit 1 0; lit 3 1; Sub 2 0 3; \
+            loop [ ] 0 [ Add 1 1 0; lit 3 1; Sub 0 0 3; ]\n",
+        ),
+    ];
+    for (text, expected) in &rows {
+        let found = shown(alloc, text)?;
+        if found.as_str() != *expected {
+            println!(rt; "{text}\n{found}{expected}")?;
+            return Err(Fail::new("other statements"));
+        }
+    }
+    Ok(())
+}
