@@ -16,3 +16,4 @@ pub mod NumberedNames
 pub mod VariableParts
 pub mod Weights
 pub mod Members
+pub mod FlatPrograms

@@ -2,3 +2,4 @@ pub mod Flatten
 pub mod Places
 pub mod Numbering
 pub mod Meaning
+pub mod Sized

@@ -2,9 +2,11 @@
 
 ghost use Rattle.std.specs.Prelude.{◌≡◌, ◌≤◌, ◌+◌, List, map, length, IfOk};
 ghost use Rattle.br_flatimp.specs.Refines.{Refines, meaning};
+ghost use Rattle.br_flatimp.specs.WellFormed.{IsWellFormed};
 ghost use Rattle.br_flatten.specs.Flatten.{flat_function, flat_program};
 ghost use Rattle.br_flatten.specs.Meaning.{source_meaning};
 ghost use Rattle.br_flatten.specs.Places.{first_places};
+ghost use Rattle.br_flatten.specs.Sized.{AreSized};
 ghost use Rattle.br_measure.specs.Bulk.{bulk, commands_bulk};
 ghost use Rattle.br_syntax.specs.NameFaults.{HasNoNameFault};
 
@@ -21,11 +23,14 @@ use sqlite_items::Items;
 use std::alloc::Global;
 
 /// The flat program of a program of the source language. The variables of a function are numbered in
-/// the order of their first place in the text, and the temporaries come after them. Answers want of
-/// memory alone.
+/// the order of their first place in the text, and the temporaries come after them. The units and the
+/// names of a function are within its bulk, its buffers within its nested buffers, and it calls what
+/// its source calls, in the same order. Answers want of memory alone.
 pub fn flatten(alloc: Global, p: &Checked) -> Result<FlatProgram, NoMemory>
     ensures program { IfOk result (λ q. q.funcs ≡ flat_program first_places p.now) }
     ensures refines { IfOk result (λ q. Refines (meaning q.funcs) (source_meaning p.now)) }
+    ensures well_formed { IfOk result (λ q. IsWellFormed q.funcs) }
+    ensures sizes { IfOk result (λ q. AreSized p.now p.now q.funcs) }
 {
     let funcs = p.program().funcs.as_slice();
     let functions = numbered(alloc, funcs)?;
