@@ -20,3 +20,9 @@ pub mod Deep
 pub mod Starting
 pub mod Entries
 pub mod Assembled
+pub mod Sizing
+pub mod Readiness
+pub mod Planning
+pub mod Totals
+pub mod Saving
+pub mod Unrolling

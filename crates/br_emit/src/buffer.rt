@@ -1,0 +1,89 @@
+// The one buffer that code is written into.
+
+ghost use Rattle.std.specs.Prelude.{◌≡◌, ◌≤◌, ◌<◌, ◌++◌, ◌∷◌, [], ◌-◌, slice_set, length, IfOk};
+
+use crate::code::Code;
+use br_base::NoMemory;
+use std::alloc::Global;
+use std::marker::Model;
+
+/// Code that is being written: words, and the offsets at which functions begin. All its room is taken
+/// when it is made. Contracts see its words, its offsets and its room left for words, functions and
+/// calls.
+#[derive(Drop)]
+pub struct CodeBuffer {
+    pub(crate) code: Code,
+    pub(crate) offsets: Vec<u32>,
+    // the callees of the functions, in the order of their calls
+    pub(crate) callees: Vec<u32>,
+}
+
+impl Model for CodeBuffer {
+    ghost use Rattle.std.specs.Prelude.{◌-◌, vec_len, vec_capacity};
+    ghost use Rattle.br_emit.specs.Buffer.{Held};
+
+    ghost Value = { Held };
+
+    ghost view = { λ b. record {
+      words = b.code.words;
+      offsets = b.offsets.items;
+      word_room = b.code.room;
+      function_room = vec_capacity b.offsets - vec_len b.offsets;
+      call_room = vec_capacity b.callees - vec_len b.callees;
+    } };
+}
+
+impl CodeBuffer {
+    /// A buffer with no words and no offsets, and with room for so many words, functions and calls.
+    pub fn with_room(
+        alloc: Global,
+        words: u32,
+        functions: u32,
+        calls: u32,
+    ) -> Result<CodeBuffer, NoMemory>
+        ensures words { IfOk result (λ b. b.words ≡ []) }
+        ensures offsets { IfOk result (λ b. b.offsets ≡ []) }
+        ensures word_room { IfOk result (λ b. words ≤ b.word_room) }
+        ensures function_room { IfOk result (λ b. functions ≤ b.function_room) }
+        ensures call_room { IfOk result (λ b. calls ≤ b.call_room) }
+    {
+        let code = Code::with_room(alloc, words)?;
+        let offsets = Vec::with_capacity(alloc, functions as usize)?;
+        let callees = Vec::with_capacity(alloc, calls as usize)?;
+        Ok(CodeBuffer {
+            code,
+            offsets,
+            callees,
+        })
+    }
+
+    /// One more word.
+    pub fn push(&mut self, w: u32)
+        requires { 0 < self.old.word_room }
+        ensures { self.new ≡ record self.old { words = self.old.words ++ w ∷ []; word_room = self.old.word_room - 1 } }
+    {
+        self.code.push(w);
+    }
+
+    /// Another word in place of the one numbered `at`, counted from 0.
+    pub fn patch(&mut self, at: u32, w: u32)
+        requires { at < length self.old.words }
+        ensures { self.new ≡ record self.old { words = slice_set self.old.words at w } }
+    {
+        self.code.patch(at as usize, w);
+    }
+
+    /// The words so far.
+    pub fn words(&self) -> &[u32]
+        ensures { result.now ≡ self.now.words }
+    {
+        self.code.words()
+    }
+
+    /// The offsets in bytes at which the functions begin that are written.
+    pub fn offsets(&self) -> &[u32]
+        ensures { result.now ≡ self.now.offsets }
+    {
+        self.offsets.as_slice()
+    }
+}

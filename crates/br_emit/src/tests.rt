@@ -1,0 +1,204 @@
+// The words of pieces of code. They are those that an assembler for RV32IM makes of the instructions that
+// stand beside them.
+
+use crate::CodeBuffer;
+use crate::code::Code;
+use crate::constant_tables::table;
+use crate::framing::{entry, exit, move_stack, open, save};
+use crate::jumps::{back_words, loop_back, over, over_words};
+use crate::straight::{constant, copy, load_op, operation, place, store_op};
+use br_flatimp::{Cond, Operand, Rel};
+use br_rv32im::Ins;
+use br_words::{BinOp, Size};
+use std::test::Fail;
+
+#[test]
+fn buffers_keep_words_and_offsets(rt: HostRuntime) -> Result<(), Fail> {
+    let mut code = CodeBuffer::with_room(rt.alloc(), 3, 1, 1)?;
+    assert_eq!(rt; code.words(), [].as_slice());
+    assert_eq!(rt; code.offsets(), [].as_slice());
+    code.push(7);
+    code.push(8);
+    code.push(9);
+    code.patch(1, 5);
+    assert_eq!(rt; code.words(), [7, 5, 9].as_slice());
+    assert_eq!(rt; code.offsets(), [].as_slice());
+    Ok(())
+}
+
+#[test]
+fn constants(rt: HostRuntime) -> Result<(), Fail> {
+    let mut code = Code::with_room(rt.alloc(), 16)?;
+    // addi x5, x0, 7
+    constant(&mut code, 5, 7);
+    // lui x5, 0x12345; addi x5, x5, 0x678
+    constant(&mut code, 5, 0x12345678);
+    // lui x5, 2; addi x5, x5, -2048
+    constant(&mut code, 5, 0x1800);
+    // addi x5, x0, -2048
+    constant(&mut code, 5, 0xfffff800);
+    // lui x5, 1
+    constant(&mut code, 5, 0x1000);
+    assert_eq!(rt;
+        code.words(),
+        [
+            0x00700293, 0x123452b7, 0x67828293, 0x000022b7, 0x80028293, 0x80000293, 0x000012b7,
+        ]
+        .as_slice()
+    );
+    Ok(())
+}
+
+#[test]
+fn operations(rt: HostRuntime) -> Result<(), Fail> {
+    let mut code = Code::with_room(rt.alloc(), 16)?;
+    // addi x5, x6, 0
+    copy(&mut code, 5, 6);
+    // nothing
+    copy(&mut code, 5, 5);
+    // sltu x5, x6, x7
+    operation(&mut code, 5, BinOp::Ltu, 6, Operand::Name(7));
+    // sub x5, x6, x7; sltiu x5, x5, 1
+    operation(&mut code, 5, BinOp::Eq, 6, Operand::Name(7));
+    // addi x5, x6, -2048
+    operation(&mut code, 5, BinOp::Sub, 6, Operand::Const(2048));
+    // srai x5, x6, 31
+    operation(&mut code, 5, BinOp::Srs, 6, Operand::Const(31));
+    assert_eq!(rt;
+        code.words(),
+        [
+            0x00030293, 0x007332b3, 0x407302b3, 0x0012b293, 0x80030293, 0x41f35293,
+        ]
+        .as_slice()
+    );
+    Ok(())
+}
+
+#[test]
+fn accesses(rt: HostRuntime) -> Result<(), Fail> {
+    let mut code = Code::with_room(rt.alloc(), 16)?;
+    // lbu x5, -1(x6)
+    code.put(Ins::Load(load_op(Size::One), 5, 6, -1));
+    // sh x6, 2047(x5)
+    code.put(Ins::Store(store_op(Size::Two), 5, 6, 2047));
+    // addi x5, sp, 2032
+    place(&mut code, 5, 2032);
+    // lui x5, 1; addi x5, x5, -2048; add x5, x5, sp
+    place(&mut code, 5, 2048);
+    // lui x5, 16; add x5, x5, sp
+    place(&mut code, 5, 65536);
+    assert_eq!(rt;
+        code.words(),
+        [
+            0xfff34283, 0x7e629fa3, 0x7f010293, 0x000012b7, 0x80028293, 0x002282b3, 0x000102b7,
+            0x002282b3,
+        ]
+        .as_slice()
+    );
+    Ok(())
+}
+
+#[test]
+fn tables_of_one_and_two_bytes(rt: HostRuntime) -> Result<(), Fail> {
+    let mut code = Code::with_room(rt.alloc(), 16)?;
+    // jal x1, 8; the bytes; add x1, x1, x6; lbu x5, 0(x1)
+    table(&mut code, 5, Size::One, &[1], 6);
+    // jal x1, 8; the bytes; add x1, x1, x6; lhu x5, 0(x1)
+    table(&mut code, 5, Size::Two, &[1, 2], 6);
+    assert_eq!(rt;
+        code.words(),
+        [
+            0x008000ef, 0x00000001, 0x006080b3, 0x0000c283, 0x008000ef, 0x00000201, 0x006080b3,
+            0x0000d283,
+        ]
+        .as_slice()
+    );
+    Ok(())
+}
+
+#[test]
+fn tables_of_three_and_five_bytes(rt: HostRuntime) -> Result<(), Fail> {
+    let mut code = Code::with_room(rt.alloc(), 16)?;
+    // jal x1, 8; the bytes; add x1, x1, x6; lbu x5, 0(x1)
+    table(&mut code, 5, Size::One, &[1, 2, 3], 6);
+    // jal x1, 12; the bytes; add x1, x1, x6; lw x5, 0(x1)
+    table(&mut code, 5, Size::Four, &[1, 2, 3, 4, 5], 6);
+    assert_eq!(rt;
+        code.words(),
+        [
+            0x008000ef, 0x00030201, 0x006080b3, 0x0000c283, 0x00c000ef, 0x04030201, 0x00000005,
+            0x006080b3, 0x0000a283,
+        ]
+        .as_slice()
+    );
+    Ok(())
+}
+
+#[test]
+fn jumps_at_the_edge_of_their_reach(rt: HostRuntime) -> Result<(), Fail> {
+    let mut code = Code::with_room(rt.alloc(), 16)?;
+    // jal x0, 1048572
+    over(&mut code, 0, 262_142);
+    // auipc x1, 256; jalr x0, 4(x1)
+    over(&mut code, 0, 262_143);
+    let test = Cond::Compare(Rel::Ltu, 5, 6);
+    // bltu x5, x6, -4096
+    loop_back(&mut code, test, 1024);
+    // bgeu x5, x6, 8; jal x0, -4104
+    loop_back(&mut code, test, 1025);
+    assert_eq!(rt;
+        code.words(),
+        [
+            0x7fdff06f, 0x00100097, 0x00408067, 0x8062e063, 0x0062f463, 0xff9fe06f,
+        ]
+        .as_slice()
+    );
+    assert_eq!(rt; (over_words(262_142), over_words(262_143)), (1, 2));
+    assert_eq!(rt;
+        (back_words(1024), back_words(1025), back_words(262_144)),
+        (1, 2, 3)
+    );
+    Ok(())
+}
+
+#[test]
+fn frames_and_entries(rt: HostRuntime) -> Result<(), Fail> {
+    let mut code = Code::with_room(rt.alloc(), 16)?;
+    // addi sp, sp, -12; sw x1, 0(sp); sw x5, 4(sp); sw x9, 8(sp)
+    open(&mut code, 12);
+    save(&mut code, 0, &[1, 5, 9]);
+    // lw x1, 0(sp); addi sp, sp, 12; jalr x0, 0(x1)
+    exit(&mut code, 12);
+    // lui sp, 0x80300; lui x1, 0x80301; jalr x1, -2048(x1); ecall
+    entry(&mut code, 0x80300800);
+    assert_eq!(rt;
+        code.words(),
+        [
+            0xff410113, 0x00112023, 0x00512223, 0x00912423, 0x00012083, 0x00c10113, 0x00008067,
+            0x80300137, 0x803010b7, 0x800080e7, 0x00000073,
+        ]
+        .as_slice()
+    );
+    Ok(())
+}
+
+#[test]
+fn stack_pointer_moves(rt: HostRuntime) -> Result<(), Fail> {
+    let mut code = Code::with_room(rt.alloc(), 16)?;
+    // addi sp, sp, 2032
+    move_stack(&mut code, 2032);
+    // addi sp, sp, -2048
+    move_stack(&mut code, 0xfffff800);
+    // lui x1, 1; addi x1, x1, -2048; add sp, sp, x1
+    move_stack(&mut code, 2048);
+    // lui x1, 16; add sp, sp, x1
+    move_stack(&mut code, 65536);
+    assert_eq!(rt;
+        code.words(),
+        [
+            0x7f010113, 0x80010113, 0x000010b7, 0x80008093, 0x00110133, 0x000100b7, 0x00110133,
+        ]
+        .as_slice()
+    );
+    Ok(())
+}
