@@ -189,3 +189,128 @@ fn statements_of_texts(rt: HostRuntime) -> Result<(), Fail> {
     }
     Ok(())
 }
+
+// The programs of the folder examples, without their comments.
+#[test]
+fn statements_of_examples(rt: HostRuntime) -> Result<(), Fail> {
+    let alloc = rt.alloc();
+    let rows = [
+        (
+            "(fn setup () ()
+              (interact () MMIOWRITE 0x10012004 0x40000)
+              (interact () MMIOWRITE 0x10012008 0x200000))
+            (fn button () (held)
+              (interact (pins) MMIOREAD 0x10012000)
+              (set held (and (sru pins 18) 1)))
+            (fn light (on) ()
+              (interact () MMIOWRITE 0x1001200C (slu on 21)))
+            (fn wait (turns) ()
+              (while turns
+                (set turns (sub turns 1))))
+            (fn main (turns) ()
+              (call () setup)
+              (set on 0)
+              (while 1
+                (set on (sub 1 on))
+                (call (held) button)
+                (call () light (or on held))
+                (call () wait turns)))",
+            "() -> () of 2: lit 0 268509188; lit 1 262144; write 0 1; lit 0 268509192; \
+            lit 1 2097152; write 0 1;\n\
+            () -> (0) of 4: lit 2 268509184; read 1 2; lit 3 18; Sru 2 1 3; lit 3 1; And 0 2 3;\n\
+            (0) -> () of 4: lit 1 268509196; lit 3 21; Slu 2 0 3; write 1 2;\n\
+            (0) -> () of 2: loop [ ] 0 [ lit 1 1; Sub 0 0 1; ]\n\
+            (0) -> () of 4: call () 0 (); lit 1 0; loop [ lit 3 1; ] 3 [ lit 3 1; Sub 1 3 1; \
+            call (2) 1 (); Or 3 1 2; call () 2 (3); call () 3 (0); ]\n",
+        ),
+        (
+            "(fn main () ()
+              (interact () MMIOWRITE 0x10012008 0x200000)
+              (interact () MMIOWRITE 0x1001200C 0x200000))",
+            "() -> () of 2: lit 0 268509192; lit 1 2097152; write 0 1; lit 0 268509196; \
+            lit 1 2097152; write 0 1;\n",
+        ),
+        (
+            "(fn sum (from n) (total)
+              (set total 0)
+              (while n
+                (interact (stop) MMIOREAD 0x10012000)
+                (if stop
+                  (then (set n 0))
+                  (else
+                    (set total (add total (load4 from)))
+                    (set from (add from 4))
+                    (set n (sub n 1)))))
+              (interact () MMIOWRITE 0x1001200C total))",
+            "(0 1) -> (2) of 5: lit 2 0; loop [ ] 1 [ lit 4 268509184; read 3 4; if 3 [ lit 1 0; ] \
+            [ load Four 4 0 0; Add 2 2 4; lit 4 4; Add 0 0 4; lit 4 1; Sub 1 1 4; ] ] \
+            lit 4 268509196; write 4 2;\n",
+        ),
+        (
+            "(fn operations (a b) (all)
+              (set all (add a b))
+              (set all (sub all (mul a b)))
+              (set all (xor all (mulhuu a b)))
+              (set all (or all (divu a b)))
+              (set all (and all (remu a b)))
+              (set all (xor all (slu a b)))
+              (set all (xor all (sru a b)))
+              (set all (xor all (srs a b)))
+              (set all (add all (lts a b)))
+              (set all (add all (ltu a b)))
+              (set all (add all (eq a 0x2a)))
+              (set all (ite (ltu a b) (sub b a) all)))
+            (fn memory () (word)
+              (stackalloc buffer 8
+                (store1 buffer 1)
+                (store2 (add buffer 2) 2)
+                (store4 (add buffer 4) 4)
+                (set word (load1 buffer))
+                (set word (add word (load2 (add buffer 2))))
+                (set word (add word (load4 (add buffer 4)))))
+              (set word (add word (table1 (1 2 3 255) 3)))
+              (set word (add word (table2 (1 0 2 0) 2)))
+              (set word (add word (table4 (4 3 2 1) 0))))",
+            "(0 1) -> (2) of 5: Add 2 0 1; Mul 3 0 1; Sub 2 2 3; Mulhuu 3 0 1; Xor 2 2 3; \
+            Divu 3 0 1; Or 2 2 3; Remu 3 0 1; And 2 2 3; Slu 3 0 1; Xor 2 2 3; Sru 3 0 1; \
+            Xor 2 2 3; Srs 3 0 1; Xor 2 2 3; Lts 3 0 1; Add 2 2 3; Ltu 3 0 1; Add 2 2 3; \
+            lit 4 42; Eq 3 0 4; Add 2 2 3; Ltu 3 0 1; if 3 [ Sub 2 1 0; ] [ copy 2 2; ]\n\
+            () -> (0) of 5: stackalloc 1 8 [ lit 2 1; store One 1 2 0; lit 3 2; Add 2 1 3; lit 3 2; \
+            store Two 2 3 0; lit 3 4; Add 2 1 3; lit 3 4; store Four 2 3 0; load One 0 1 0; \
+            lit 4 2; Add 3 1 4; load Two 2 3 0; Add 0 0 2; \
+            lit 4 4; Add 3 1 4; load Four 2 3 0; Add 0 0 2; ] \
+            lit 3 3; table One 2 4 3; Add 0 0 2; lit 3 2; table Two 2 4 3; Add 0 0 2; \
+            lit 3 0; table Four 2 4 3; Add 0 0 2;\n",
+        ),
+        (
+            "(fn sum (n) (total last)
+              (set total 0)
+              (set last (sub n 1))
+              (while n
+                (set total (add total n))
+                (set n (sub n 1))))
+            (fn main () ()
+              (skip)
+              (interact (button) MMIOREAD 0x10012000)
+              (if (eq button 0)
+                (then)
+                (else
+                  (seq
+                    (call (total last) sum button)
+                    (interact () MMIOWRITE 0x1001200c total)
+                    (unset last)))))",
+            "(0) -> (1 2) of 4: lit 1 0; lit 3 1; Sub 2 0 3; \
+            loop [ ] 0 [ Add 1 1 0; lit 3 1; Sub 0 0 3; ]\n\
+            () -> () of 5: lit 3 268509184; read 0 3; lit 4 0; Eq 3 0 4; if 3 [ ] \
+            [ call (1 2) 0 (0); lit 3 268509196; write 3 1; ]\n",
+        ),
+    ];
+    for (text, expected) in &rows {
+        let found = shown(alloc, text)?;
+        if found.as_str() != *expected {
+            println!(rt; "{text}\n{found}{expected}")?;
+            return Err(Fail::new("other statements"));
+        }
+    }
+    Ok(())
+}
