@@ -290,7 +290,14 @@ reads = record {
   shallow = subst (λ h. h ≤ 256) (sym (forest.height_is all_trees)) (omega arith);
 }
 
--- so they are what it stands for
+-- so it stands for them
+pub stands : (fs : List Func) × IsFirmware fs
+stands = (
+  map placed all_functions,
+  (forest.trees all_trees, reads, ap functions trees_are ∙ functions_read all_functions),
+)
+
+-- and for no others
 exact : (fs : List Func) → IsFirmware fs → fs ≡ map placed all_functions
 exact fs (ts, r, d) =
     let same : ts ≡ map function_tree all_functions = reads-one firmware_text ts (forest.trees all_trees) r reads

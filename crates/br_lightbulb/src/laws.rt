@@ -8,7 +8,7 @@ ghost use Rattle.br_syntax.specs.Functions.{function_named};
 ghost use Rattle.br_syntax.specs.Offsets.{IsEqualUpToOffsets};
 ghost use Rattle.br_source_meaning.specs.Runs.{State};
 ghost use Rattle.br_source_meaning.specs.Calls.{function_of, call};
-ghost use Rattle.br_lightbulb.specs.Firmware.{IsFirmwareUpToOffsets};
+ghost use Rattle.br_lightbulb.specs.Firmware.{IsFirmware, IsFirmwareUpToOffsets};
 ghost use Rattle.br_lightbulb.specs.Names as name;
 ghost use Rattle.br_lightbulb.specs.Polls.{firmware};
 ghost use Rattle.br_lightbulb.specs.Shows.{
@@ -80,9 +80,10 @@ pub fn poll_shows_piece()
         ShowsEvents s poll_piece (function_of fs depth name.poll [] s) }
 {}
 
-/// The firmware is these trees: each program that its text stands for is equal to them up to
-/// offsets, and has a function `main`.
+/// The firmware is these trees: its text stands for a program, and each such program is equal to
+/// the trees up to offsets and has a function `main`.
 pub fn text_stands_for_trees()
+    ensures some { (fs : List Func) × IsFirmware fs }
     ensures trees { (fs : List Func) → IsFirmwareUpToOffsets fs → IsEqualUpToOffsets fs firmware }
     ensures main { (fs : List Func) → IsFirmwareUpToOffsets fs →
         (f : Func) × (function_named fs name.main ≡ Some f) }
