@@ -19,9 +19,9 @@ use std::alloc::Global;
 /// different names and one more, its largest sum of nested buffer sizes, and the most that one of its
 /// callees needs. A number past 4,294,967,295 is given as that. The one error is want of memory.
 ///
-/// The program is walked once. After that each round looks at all functions and calls and reaches one
-/// call further, and the first round that changes nothing ends them: there is at most one round more
-/// than there are functions on the longest path of calls.
+/// Names, buffers and calls take one walk of the program each. After that each round looks at all
+/// functions and calls and reaches one call further, and the first round that changes nothing ends
+/// them: there is at most one round more than there are functions on the longest path of calls.
 pub fn needs(alloc: Global, p: &FlatProgram) -> Result<Vec<u32>, NoMemory>
     requires no_recursion { HasNoRecursion p.now.funcs }
     requires register_form { IsRegisterForm p.now.funcs }
