@@ -1,5 +1,5 @@
 -- Ranges that lie apart, and the addresses at which a memory has no byte.
-use Rattle.std.proofs.Common.{◌≡◌, ◌≢◌, ℕ, ◌+◌, ◌%◌, ◌^◌, ◌<◌, ◌≤◌, List, [], ◌∷◌, length, Some, None, suc, drop, get_or, drop-cons, cond, refl, sym, ap, subst, ◌∙◌, arith}
+use Rattle.std.proofs.Common.{◌≡◌, ◌≢◌, ℕ, ◌+◌, ◌^◌, ◌<◌, ◌≤◌, List, [], ◌∷◌, length, Some, None, suc, drop, get_or, drop-cons, cond, refl, sym, ap, ◌∙◌, arith}
 use Rattle.std.specs.Prelude.{IsTrue}
 use Rattle.std.specs.Ordering.{nat_cmp, is_eq}
 use Rattle.std.specs.declared.cmp.Ordering.{Ordering}
@@ -8,7 +8,7 @@ use Rattle.std.specs.FinMap as map
 use Rattle.std.specs.Cmp.{nat_cmp_total}
 use Rattle.br_bytes.specs.declared.run.Choice.{Choice}
 use Rattle.br_bytes.specs.Memory.{Memory, place, with_bytes}
-use Rattle.br_words.specs.Layout.{data_base, stack_base}
+use Rattle.br_words.specs.Layout.{data_base}
 use Rattle.br_texts.specs.Memory.{AreRanges}
 
 get-insert_other : (m : Memory) (k b q : ℕ) → q ≢ k → map.get (map.insert m k b) q ≡ map.get m q

@@ -1,4 +1,5 @@
 pub mod Apart
+pub mod Kept
 pub mod RangeLines
 pub mod Scripts
 pub mod Shown

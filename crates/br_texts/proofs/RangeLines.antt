@@ -1,5 +1,5 @@
 -- Lines of ranges, one after another.
-use Rattle.std.proofs.Common.{◌≡◌, ℕ, ◌+◌, ◌≤◌, ◌<◌, ◌^◌, List, [], ◌∷◌, ◌++◌, length, arith, append_assoc, ap, sym, ◌∙◌}
+use Rattle.std.proofs.Common.{◌≡◌, ℕ, ◌+◌, ◌≤◌, List, ◌∷◌, ◌++◌, length, arith, append_assoc, ap, ◌∙◌}
 use Rattle.br_bytes.specs.declared.run.Choice.{Choice}
 use Rattle.br_words.specs.Layout.{data_base, stack_base}
 use Rattle.br_texts.specs.Lines.{bytes_line}

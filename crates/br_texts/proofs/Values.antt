@@ -1,5 +1,5 @@
 -- What stands at places, one after another.
-use Rattle.std.proofs.Common.{◌≡◌, ℕ, zero, suc, ◌+◌, ◌-◌, ◌<◌, List, [], ◌∷◌, ◌++◌, ap, arith, append_assoc, ◌∙◌, sym}
+use Rattle.std.proofs.Common.{◌≡◌, ℕ, suc, ◌+◌, ◌-◌, ◌<◌, List, [], ◌∷◌, ◌++◌, ap, arith, append_assoc, ◌∙◌, sym}
 use Rattle.br_texts.specs.Memory.{values}
 
 -- the value at one more place joins those so far

@@ -3,3 +3,4 @@ pub mod InterpText
 pub mod Lines
 pub mod Memory
 pub mod RunText
+pub mod Verdict

@@ -7,7 +7,9 @@ mod interps;
 mod lines;
 mod ranges;
 mod runs;
+mod verdicts;
 
 pub use entries::entry_named;
 pub use interps::interp_text;
 pub use runs::run_text;
+pub use verdicts::verdict;

@@ -7,7 +7,7 @@ use Rattle.br_image.specs.Scripts.{interp_parts, IsInterpScript, IsScriptFault}
 use Rattle.br_compile.specs.declared.refusal.Refusal.{Refusal}
 use Rattle.br_compile.specs.Refusal.{Accepts, IsFaultOf}
 use Rattle.br_top.specs.declared.command.Command.TheVariants.{Interp}
-use Rattle.br_top.specs.declared.trouble.Reason.TheVariants.{TooLong, Source, Image, Script, TextTooLong, UnknownEntry, WrongCount}
+use Rattle.br_top.specs.declared.trouble.Reason.TheVariants.{TooLong, Source, Image, Script, TextTooLong, UnknownEntry, WrongCount, Trace}
 use Rattle.br_top.specs.declared.trouble.Trouble.{Trouble}
 use Rattle.br_top.specs.declared.trouble.Trouble.TheVariants.{Memory, ReadFault, Refused}
 use Rattle.br_top.specs.Answers.{IsUnrefused}
@@ -26,6 +26,7 @@ text_refused bytes s at script (Refused (Image fault)) refused = absurd refused
 text_refused bytes s at script (Refused (Script fault)) refused = absurd refused
 text_refused bytes s at script (Refused TextTooLong) refused = (s, at, script, refused)
 text_refused bytes s at script (Refused UnknownEntry) refused = absurd refused
+text_refused bytes s at script (Refused (Trace fault)) refused = absurd refused
 text_refused bytes s at script (Refused (WrongCount count)) refused = absurd refused
 
 -- a script that cannot call a function of the program after it
@@ -38,6 +39,7 @@ function_refused bytes s fs holds (Refused (Source refusal)) refused = absurd re
 function_refused bytes s fs holds (Refused (Image fault)) refused = absurd refused
 function_refused bytes s fs holds (Refused (Script fault)) refused = absurd refused
 function_refused bytes s fs holds (Refused TextTooLong) refused = absurd refused
+function_refused bytes s fs holds (Refused (Trace fault)) refused = absurd refused
 function_refused bytes s fs holds (Refused UnknownEntry) refused = (s, fs, holds, refused)
 function_refused bytes s fs holds (Refused (WrongCount count)) refused = (s, fs, holds, refused)
 
@@ -62,6 +64,7 @@ same_place laws bytes s t at to first second = let same = laws.one_script bytes 
 pub interp_unrefused : Laws → (bytes text : List ℕ) → length bytes ≤ 16777216 → AddsInterp bytes text → IsUnrefused Interp bytes
 interp_unrefused laws bytes text short adds TooLong refused = omega (arith, short, refused)
 interp_unrefused laws bytes text short adds (Image fault) refused = refused
+interp_unrefused laws bytes text short adds (Trace fault) refused = refused
 interp_unrefused laws bytes text short adds (Script fault) refused =
     laws.no_fault bytes adds.script adds.holds.at fault adds.holds.scripted refused
 interp_unrefused laws bytes text short adds TextTooLong refused =

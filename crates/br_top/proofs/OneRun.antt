@@ -10,7 +10,7 @@ use Rattle.br_image.specs.Faults.{IsFault, ForFault}
 use Rattle.br_image.specs.Printed.{image_text}
 use Rattle.br_image.specs.Scripts.{run_parts, IsRunScript, IsScriptFault}
 use Rattle.br_top.specs.declared.command.Command.TheVariants.{Run}
-use Rattle.br_top.specs.declared.trouble.Reason.TheVariants.{TooLong, Source, Image, Script, TextTooLong, UnknownEntry, WrongCount}
+use Rattle.br_top.specs.declared.trouble.Reason.TheVariants.{TooLong, Source, Image, Script, TextTooLong, UnknownEntry, WrongCount, Trace}
 use Rattle.br_top.specs.declared.trouble.Trouble.{Trouble}
 use Rattle.br_top.specs.declared.trouble.Trouble.TheVariants.{Memory, ReadFault, Refused}
 use Rattle.br_top.specs.Answers.{IsUnrefused}
@@ -34,6 +34,7 @@ entry_refused bytes s i holds (Refused (Source refusal)) refused = absurd refuse
 entry_refused bytes s i holds (Refused (Image fault)) refused = absurd refused
 entry_refused bytes s i holds (Refused (Script fault)) refused = absurd refused
 entry_refused bytes s i holds (Refused TextTooLong) refused = absurd refused
+entry_refused bytes s i holds (Refused (Trace fault)) refused = absurd refused
 entry_refused bytes s i holds (Refused UnknownEntry) refused = (s, i, holds, refused)
 entry_refused bytes s i holds (Refused (WrongCount count)) refused = (s, i, holds, refused)
 
@@ -54,6 +55,7 @@ pub run_unrefused : Laws → (bytes text : List ℕ) → length bytes ≤ 167772
 run_unrefused laws bytes text short adds TooLong refused = omega (arith, short, refused)
 run_unrefused laws bytes text short adds (Source refusal) refused = refused
 run_unrefused laws bytes text short adds TextTooLong refused = refused
+run_unrefused laws bytes text short adds (Trace fault) refused = refused
 run_unrefused laws bytes text short adds (Script fault) refused =
     laws.no_fault bytes adds.script adds.holds.at fault adds.holds.scripted refused
 run_unrefused laws bytes text short adds (Image fault) refused =

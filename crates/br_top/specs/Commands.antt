@@ -2,6 +2,7 @@
 use Rattle.std.specs.Prelude.{ℕ, ◌≡◌, ◌<◌, List, [], ◌∷◌, length, codes, map, ⊤, String, Bool, true}
 use Rattle.std.specs.declared.alloc.Global.{Global}
 use Rattle.std.specs.String.{string_bytes}
+use Rattle.br_bytes.specs.declared.run.Event.{Event}
 use Rattle.br_sexpr.specs.declared.tree.Tree.{Tree}
 use Rattle.br_sexpr.specs.Reads.{Reads}
 use Rattle.br_sexpr.specs.Canonical.{canonical}
@@ -10,15 +11,17 @@ use Rattle.br_syntax.specs.Denotes.{Denotes}
 use Rattle.br_image.specs.declared.images.Image.{Image as ProgramImage}
 use Rattle.br_image.specs.Printed.{image_text}
 use Rattle.br_image.specs.Faults.{IsFault}
+use Rattle.br_image.specs.Traces.{IsTrace, IsTraceFault}
+use Rattle.br_texts.specs.Verdict.{IsVerdict}
 use Rattle.br_listing.specs.Text.{list_text}
 use Rattle.br_compile.specs.declared.refusal.Refusal.{Refusal}
 use Rattle.br_compile.specs.declared.refusal.Refusal.TheVariants.{InputTooLong, Text, Shape, Names, NotYet}
 use Rattle.br_compile.specs.Refusal.{Accepts, IsRefusal}
 use Rattle.br_compile.specs.Implements.{Implements}
 use Rattle.br_top.specs.declared.command.Command.{Command}
-use Rattle.br_top.specs.declared.command.Command.TheVariants.{Compile, Print, List as Listing, Run, Interp}
+use Rattle.br_top.specs.declared.command.Command.TheVariants.{Compile, Print, List as Listing, Run, Interp, Judge}
 use Rattle.br_top.specs.declared.trouble.Reason.{Reason}
-use Rattle.br_top.specs.declared.trouble.Reason.TheVariants.{TooLong, Source, Image}
+use Rattle.br_top.specs.declared.trouble.Reason.TheVariants.{TooLong, Source, Image, Trace}
 use Rattle.br_top.specs.Scripted.{AddsRun, AddsInterp, RefusesRun, RefusesInterp}
 
 -- the words of a command
@@ -28,6 +31,7 @@ words_of Print = codes "print" ∷ []
 words_of Listing = codes "list" ∷ []
 words_of Run = codes "run" ∷ []
 words_of Interp = codes "interp" ∷ []
+words_of Judge = codes "judge" ∷ []
 
 -- these texts are the words of the command
 abbrev pub AreWordsOf : List (String Global) → Command → Type 0
@@ -44,6 +48,7 @@ reads_input Print = true
 reads_input Listing = true
 reads_input Run = true
 reads_input Interp = true
+reads_input Judge = true
 
 -- how many bytes of input a command reads at most
 abbrev pub limit_of : Command → ℕ
@@ -52,6 +57,7 @@ limit_of Print = 1048576
 limit_of Listing = 16777216
 limit_of Run = 16777216
 limit_of Interp = 16777216
+limit_of Judge = 16777216
 
 -- the text of an image that implements the program of these bytes, which are an accepted text
 pub record AddsImage (bytes text : List ℕ) : Type 0 where
@@ -75,6 +81,12 @@ pub record AddsListing (bytes text : List ℕ) : Type 0 where
   pub read : bytes ≡ image_text image
   pub listed : text ≡ list_text image
 
+-- the verdict on the events that these bytes tell
+pub record AddsVerdict (bytes text : List ℕ) : Type 0 where
+  pub events : List Event
+  pub told : IsTrace bytes events
+  pub judged : IsVerdict events text
+
 -- for these bytes the command adds this text to its output
 abbrev pub Adds : Command → List ℕ → List ℕ → Type 0
 Adds Compile bytes text = AddsImage bytes text
@@ -82,6 +94,7 @@ Adds Print bytes text = AddsCanonical bytes text
 Adds Listing bytes text = AddsListing bytes text
 Adds Run bytes text = AddsRun bytes text
 Adds Interp bytes text = AddsInterp bytes text
+Adds Judge bytes text = AddsVerdict bytes text
 
 -- the refusal is for a fault of the text or of its shape, which come before all others
 abbrev pub IsOfShape : Refusal → Type 0
@@ -102,3 +115,5 @@ Refuses Listing bytes (Image fault) = IsFault bytes fault
 Refuses Listing bytes other = ⊥
 Refuses Run bytes reason = RefusesRun bytes reason
 Refuses Interp bytes reason = RefusesInterp bytes reason
+Refuses Judge bytes (Trace fault) = IsTraceFault bytes fault
+Refuses Judge bytes other = ⊥

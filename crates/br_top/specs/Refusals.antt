@@ -14,8 +14,10 @@ use Rattle.br_image.specs.declared.faults.ImageFault.{ImageFault}
 use Rattle.br_image.specs.declared.faults.ImageFault.TheVariants.{BadLine, BadOrder, BadOffset, Truncated}
 use Rattle.br_image.specs.declared.scripts.values.ScriptFault.{ScriptFault}
 use Rattle.br_image.specs.declared.scripts.values.ScriptFault.TheVariants.{BadScriptLine, ScriptEnds}
+use Rattle.br_image.specs.declared.traces.reading.TraceFault.{TraceFault}
+use Rattle.br_image.specs.declared.traces.reading.TraceFault.TheVariants.{BadTraceLine}
 use Rattle.br_top.specs.declared.trouble.Reason.{Reason}
-use Rattle.br_top.specs.declared.trouble.Reason.TheVariants.{TooLong, Source, Image, Script, TextTooLong, UnknownEntry, WrongCount}
+use Rattle.br_top.specs.declared.trouble.Reason.TheVariants.{TooLong, Source, Image, Script, TextTooLong, UnknownEntry, WrongCount, Trace}
 use Rattle.br_top.specs.Lines.{error_line}
 
 -- each number in decimal, after one space
@@ -67,6 +69,9 @@ abbrev pub script_fault_line : ScriptFault → List ℕ
 script_fault_line (BadScriptLine n) = refused_line (codes "BadScriptLine") (n ∷ [])
 script_fault_line (ScriptEnds n) = refused_line (codes "ScriptEnds") (n ∷ [])
 
+abbrev pub trace_fault_line : TraceFault → List ℕ
+trace_fault_line (BadTraceLine n) = refused_line (codes "BadTraceLine") (n ∷ [])
+
 abbrev pub reason_line : Reason → List ℕ
 reason_line TooLong = refused_line (codes "InputTooLong") []
 reason_line (Source refusal) = refusal_line refusal
@@ -75,3 +80,4 @@ reason_line (Script fault) = script_fault_line fault
 reason_line TextTooLong = refused_line (codes "TextTooLong") []
 reason_line UnknownEntry = refused_line (codes "UnknownEntry") []
 reason_line (WrongCount count) = refused_line (codes "WrongCount") (count ∷ [])
+reason_line (Trace fault) = trace_fault_line fault

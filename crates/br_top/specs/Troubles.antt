@@ -9,10 +9,11 @@ use Rattle.br_syntax.specs.declared.faults.ShapeFault.{ShapeFault}
 use Rattle.br_measure.specs.declared.faults.NameFault.{NameFault}
 use Rattle.br_image.specs.declared.faults.ImageFault.{ImageFault}
 use Rattle.br_image.specs.declared.scripts.values.ScriptFault.{ScriptFault}
+use Rattle.br_image.specs.declared.traces.reading.TraceFault.{TraceFault}
 use Rattle.br_compile.specs.declared.refusal.Refusal.{Refusal}
 use Rattle.br_compile.specs.declared.refusal.Refusal.TheVariants.{Text, Shape, Names}
 use Rattle.br_top.specs.declared.trouble.Reason.{Reason}
-use Rattle.br_top.specs.declared.trouble.Reason.TheVariants.{TooLong, Source, Image, Script}
+use Rattle.br_top.specs.declared.trouble.Reason.TheVariants.{TooLong, Source, Image, Script, Trace}
 use Rattle.br_top.specs.declared.trouble.Trouble.{Trouble}
 use Rattle.br_top.specs.declared.trouble.Trouble.TheVariants.{Memory, ReadFault, Refused}
 
@@ -43,6 +44,9 @@ image_reason fault = Image fault
 
 abbrev pub script_reason : ScriptFault → Reason
 script_reason fault = Script fault
+
+abbrev pub trace_reason : TraceFault → Reason
+trace_reason fault = Trace fault
 
 -- work that reads nothing stopped for want of memory, or it refuses for a reason of which this holds
 abbrev pub IsRefusedFor : (Reason → Type 0) → Trouble → Type 0

@@ -16,6 +16,8 @@ pub enum Command {
     Run,
     /// From an interp script and a source text on the input to what the run shows.
     Interp,
+    /// From a trace text on the input to the verdict on its events.
+    Judge,
 }
 
 /// The command with these words, which leave out the program's own name.
@@ -28,6 +30,7 @@ pub(crate) fn command_of(words: &[String]) -> Option<Command>
         [word] if is_text(word, "list") => Some(Command::List),
         [word] if is_text(word, "run") => Some(Command::Run),
         [word] if is_text(word, "interp") => Some(Command::Interp),
+        [word] if is_text(word, "judge") => Some(Command::Judge),
         _ => None,
     }
 }
@@ -50,6 +53,6 @@ pub(crate) fn limit_of(command: Command) -> usize
 {
     match command {
         Command::Compile | Command::Print => SOURCE_LIMIT,
-        Command::List | Command::Run | Command::Interp => OTHER_LIMIT,
+        Command::List | Command::Run | Command::Interp | Command::Judge => OTHER_LIMIT,
     }
 }

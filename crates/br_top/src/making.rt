@@ -13,8 +13,10 @@ use crate::runs::run_output;
 use crate::trouble::Trouble;
 use br_base::{Source, read_all};
 use br_compile::compile;
+use br_image::{one_trace_or_one_fault, read_trace};
 use br_sexpr::one_answer;
 use br_syntax::from_tree;
+use br_texts::verdict;
 use std::alloc::Global;
 
 /// The text that a command makes of what is on the input.
@@ -49,6 +51,7 @@ fn text_of(alloc: Global, command: Command, bytes: &[u8]) -> Result<Vec<u8>, Tro
         Command::List => listing_text(alloc, bytes),
         Command::Run => run_output(alloc, bytes),
         Command::Interp => interp_output(alloc, bytes),
+        Command::Judge => verdict_text(alloc, bytes),
     }
 }
 
@@ -85,4 +88,16 @@ fn listing_text(alloc: Global, bytes: &[u8]) -> Result<Vec<u8>, Trouble>
 {
     let image = br_image::read(alloc, bytes)?;
     Ok(br_listing::list(alloc, &image)?)
+}
+
+/// The verdict on the events that a trace text tells.
+fn verdict_text(alloc: Global, bytes: &[u8]) -> Result<Vec<u8>, Trouble>
+    requires { length bytes.now ≤ limit_of Command.Judge }
+    ensures made { IfOk result (λ text. Adds Command.Judge bytes.now text.items) }
+    ensures unrefused { IfOk result (λ _. IsUnrefused Command.Judge bytes.now) }
+    ensures refused { IfErr result (IsRefusedFor (Refuses Command.Judge bytes.now)) }
+{
+    one_trace_or_one_fault();
+    let events = read_trace(alloc, bytes)?;
+    Ok(verdict(alloc, events.as_slice())?)
 }

@@ -2,12 +2,12 @@
 
 ghost use Rattle.std.specs.Prelude.{◌≡◌, ◌++◌, ◌∷◌, IfOk, OnOk};
 ghost use Rattle.std.specs.Fmt.{decimal};
-ghost use Rattle.br_top.specs.Refusals.{number_fields, refused_line, text_fault_line, shape_fault_line, name_fault_line, refusal_line, image_fault_line, script_fault_line, reason_line};
+ghost use Rattle.br_top.specs.Refusals.{number_fields, refused_line, text_fault_line, shape_fault_line, name_fault_line, refusal_line, image_fault_line, script_fault_line, trace_fault_line, reason_line};
 
 use crate::trouble::Reason;
 use br_base::NoMemory;
 use br_compile::Refusal;
-use br_image::{ImageFault, ScriptFault};
+use br_image::{ImageFault, ScriptFault, TraceFault};
 use br_measure::NameFault;
 use br_sexpr::TextFault;
 use br_syntax::ShapeFault;
@@ -25,6 +25,7 @@ pub(crate) fn reason_line(alloc: Global, reason: &Reason) -> Result<Vec<u8>, NoM
         Reason::TextTooLong => refused_line(alloc, "TextTooLong", &[]),
         Reason::UnknownEntry => refused_line(alloc, "UnknownEntry", &[]),
         Reason::WrongCount(count) => refused_line(alloc, "WrongCount", &[*count]),
+        Reason::Trace(fault) => trace_fault_line(alloc, *fault),
     }
 }
 
@@ -98,6 +99,14 @@ fn script_fault_line(alloc: Global, fault: ScriptFault) -> Result<Vec<u8>, NoMem
     match fault {
         ScriptFault::BadScriptLine(line) => refused_line(alloc, "BadScriptLine", &[line]),
         ScriptFault::ScriptEnds(line) => refused_line(alloc, "ScriptEnds", &[line]),
+    }
+}
+
+fn trace_fault_line(alloc: Global, fault: TraceFault) -> Result<Vec<u8>, NoMemory>
+    ensures { IfOk result (λ line. line.items ≡ trace_fault_line fault) }
+{
+    match fault {
+        TraceFault::BadTraceLine(line) => refused_line(alloc, "BadTraceLine", &[line]),
     }
 }
 

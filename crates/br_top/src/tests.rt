@@ -1,6 +1,7 @@
 // The top call over ends in memory.
 
 mod scripts;
+mod traces;
 
 ghost use Rattle.std.specs.Prelude.{◌≢◌};
 

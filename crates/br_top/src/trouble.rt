@@ -4,7 +4,7 @@ ghost use Rattle.std.specs.Prelude.{◌≡◌};
 
 use br_base::{NoMemory, OrMemory, ReadEnd};
 use br_compile::Refusal;
-use br_image::{ImageFault, ScriptFault};
+use br_image::{ImageFault, ScriptFault, TraceFault};
 use br_measure::NameFault;
 use br_sexpr::TextFault;
 use br_syntax::ShapeFault;
@@ -26,6 +26,8 @@ pub enum Reason {
     UnknownEntry,
     /// The function that a script calls takes this number of arguments, and the script has another.
     WrongCount(u32),
+    /// It is no trace text.
+    Trace(TraceFault),
 }
 
 /// Why there is no text.
@@ -137,6 +139,19 @@ impl From<OrMemory<ScriptFault>> for Trouble {
         match cause {
             OrMemory::Memory => Trouble::Memory,
             OrMemory::Fault(fault) => Trouble::Refused(Reason::Script(fault)),
+        }
+    }
+}
+
+impl From<OrMemory<TraceFault>> for Trouble {
+    ghost use Rattle.br_top.specs.Troubles.{trouble_of, trace_reason};
+
+    ghost from_gives = { λ cause trouble. trouble ≡ trouble_of trace_reason cause };
+
+    fn from(cause: OrMemory<TraceFault>) -> Trouble {
+        match cause {
+            OrMemory::Memory => Trouble::Memory,
+            OrMemory::Fault(fault) => Trouble::Refused(Reason::Trace(fault)),
         }
     }
 }

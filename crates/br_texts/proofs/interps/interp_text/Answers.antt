@@ -1,4 +1,4 @@
-use Rattle.std.proofs.Common.{◌≡◌, ◌∙◌, List, ℕ, ap, sym, subst}
+use Rattle.std.proofs.Common.{◌≡◌, ◌∙◌, List, ap, sym, subst}
 use Rattle.br_bytes.specs.declared.run.Choice.{Choice}
 use Rattle.br_syntax.specs.declared.program.Program.{Program}
 use Rattle.br_words.specs.Layout.{data_base}

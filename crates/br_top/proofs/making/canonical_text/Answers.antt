@@ -6,7 +6,7 @@ use Rattle.br_syntax.specs.declared.program.Func.{Func}
 use Rattle.br_syntax.specs.Denotes.{Denotes}
 use Rattle.br_compile.specs.declared.refusal.Refusal.TheVariants.{InputTooLong, Text, Shape, Names, NotYet}
 use Rattle.br_top.specs.declared.command.Command.TheVariants.{Print}
-use Rattle.br_top.specs.declared.trouble.Reason.TheVariants.{TooLong, Source, Image, Script, TextTooLong, UnknownEntry, WrongCount}
+use Rattle.br_top.specs.declared.trouble.Reason.TheVariants.{TooLong, Source, Image, Script, TextTooLong, UnknownEntry, WrongCount, Trace}
 use Rattle.br_top.specs.Answers.{IsUnrefused}
 use Rattle.br_top.proofs.making.canonical_text.Goals as goal
 
@@ -37,6 +37,7 @@ unrefused not_both one bytes trees program short read denoted (Script fault) ref
 unrefused not_both one bytes trees program short read denoted TextTooLong refused = refused
 unrefused not_both one bytes trees program short read denoted UnknownEntry refused = refused
 unrefused not_both one bytes trees program short read denoted (WrongCount count) refused = refused
+unrefused not_both one bytes trees program short read denoted (Trace fault) refused = refused
 
 -- what is read as trees that stand for a program has no fault of the text or of its shape
 pub returns-clause-unrefused : goal.returns-clause-unrefused
