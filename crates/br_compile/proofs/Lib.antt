@@ -1,11 +1,5 @@
-mod UnbuiltForms
-pub mod Putting
-mod Pieces
-mod Computing
-mod Writing
-mod Whole
-mod Assembled
+mod Needing
+mod Passes
+mod Composed
 mod Fronts
-mod Built
-mod BuiltProgram
 mod Unrefused

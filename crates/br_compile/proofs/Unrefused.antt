@@ -12,8 +12,7 @@ use Rattle.br_measure.specs.declared.faults.NameFault.{NameFault}
 use Rattle.br_measure.specs.Faults.{IsFault, IsSound}
 use Rattle.br_compile.specs.declared.refusal.Refusal.{Refusal}
 use Rattle.br_compile.specs.declared.refusal.Refusal.TheVariants as refusal
-use Rattle.br_compile.specs.Refusal.{most_bytes, Accepts, IsRefusal, IsFaultOf}
-use Rattle.br_compile.specs.Unbuilt.{program_unbuilt}
+use Rattle.br_compile.specs.Refusal.{most_bytes, Accepts, IsFaultOf}
 
 -- what the crates below say of texts and programs
 pub record Laws : Type 0 where
@@ -46,20 +45,6 @@ accepted_has_no_fault laws text fs (refusal.Shape f) ((l, ts, reads, denotes), s
     let both : Ok fs ≡ Err f = sym denotes ∙ ap functions (laws.one_reading text ts us reads reads') ∙ shape in cc
 accepted_has_no_fault laws text fs (refusal.Names f) ((l, ts, reads, denotes), sound) (gs, (m, us, reads', denotes'), fault) =
     laws.sound fs f sound (subst (λ x. IsFault x f) (one_program ts us fs gs (laws.one_reading text ts us reads reads') denotes denotes') fault)
-accepted_has_no_fault laws text fs (refusal.NotYet at) accepted is = is
-
--- a text that is accepted, with every form built, has no refusal at all
-pub built_has_no_refusal : Laws → (text : List ℕ) (trees : List Tree) (fs : List Func) → length text ≤ most_bytes → Reads text trees → Denotes trees fs → IsSound fs → program_unbuilt trees ≡ None → (r : Refusal) → IsRefusal text r → ⊥
-built_has_no_refusal laws text trees fs l reads denotes sound built (refusal.NotYet at) (m, us, gs, reads', denotes', sound', place) =
-    let both : None ≡ Some at = sym built ∙ ap program_unbuilt (laws.one_reading text trees us reads reads') ∙ place in cc
-built_has_no_refusal laws text trees fs l reads denotes sound built refusal.InputTooLong is =
-    accepted_has_no_fault laws text fs refusal.InputTooLong ((l, trees, reads, denotes), sound) is
-built_has_no_refusal laws text trees fs l reads denotes sound built (refusal.Text f) is =
-    accepted_has_no_fault laws text fs (refusal.Text f) ((l, trees, reads, denotes), sound) is
-built_has_no_refusal laws text trees fs l reads denotes sound built (refusal.Shape f) is =
-    accepted_has_no_fault laws text fs (refusal.Shape f) ((l, trees, reads, denotes), sound) is
-built_has_no_refusal laws text trees fs l reads denotes sound built (refusal.Names f) is =
-    accepted_has_no_fault laws text fs (refusal.Names f) ((l, trees, reads, denotes), sound) is
 
 -- each text is accepted or has a fault
 pub accepted_or_fault : Answers → (text : List ℕ) → ((fs : List Func) × Accepts text fs) ⊎ ((r : Refusal) × IsFaultOf text r)
@@ -108,5 +93,3 @@ one_fault_of answers text (refusal.Names f) (refusal.Shape g) (fs, (short, ts, r
     absurd (let both : Ok fs ≡ Err g = sym denotes ∙ ap functions (answers.laws.one_reading text ts us reads reads') ∙ b in cc)
 one_fault_of answers text (refusal.Names f) (refusal.Names g) (fs, (short, ts, reads, denotes), is) (gs, (short', us, reads', denotes'), is') =
     ap refusal.Names (answers.one_name_fault fs f g is (subst (λ x. IsFault x g) (one_program ts us fs gs (answers.laws.one_reading text ts us reads reads') denotes denotes') is'))
-one_fault_of answers text (refusal.NotYet at) second none b = absurd none
-one_fault_of answers text first (refusal.NotYet at) a none = absurd none

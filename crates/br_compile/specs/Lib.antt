@@ -1,6 +1,4 @@
-pub mod Implements
-pub mod SumCode
-pub mod Puts
-pub mod Refusal
 pub mod FirstSteps
-pub mod Unbuilt
+pub mod Implements
+pub mod Lowered
+pub mod Refusal

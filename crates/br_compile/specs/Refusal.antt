@@ -1,5 +1,5 @@
 -- Which texts stand for which programs, and what refuses the others.
-use Rattle.std.specs.Prelude.{◌≡◌, ℕ, ◌<◌, ◌≤◌, List, length, Some}
+use Rattle.std.specs.Prelude.{ℕ, ◌<◌, ◌≤◌, List, length}
 use Rattle.br_sexpr.specs.declared.tree.Tree.{Tree}
 use Rattle.br_sexpr.specs.Reads.{Reads, HasFault}
 use Rattle.br_syntax.specs.declared.program.Func.{Func}
@@ -7,7 +7,6 @@ use Rattle.br_syntax.specs.Denotes.{Denotes, IsShapeFault}
 use Rattle.br_measure.specs.Faults.{IsFault, IsSound}
 use Rattle.br_compile.specs.declared.refusal.Refusal.{Refusal}
 use Rattle.br_compile.specs.declared.refusal.Refusal.TheVariants as refusal
-use Rattle.br_compile.specs.Unbuilt.{program_unbuilt}
 
 -- the most bytes of a source text
 abbrev pub most_bytes : ℕ
@@ -28,21 +27,6 @@ IsFaultOf text (refusal.Text fault) = (length text ≤ most_bytes) × HasFault t
 IsFaultOf text (refusal.Shape fault) =
     (length text ≤ most_bytes) × (trees : List Tree) × Reads text trees × IsShapeFault trees fault
 IsFaultOf text (refusal.Names fault) = (fs : List Func) × StandsFor text fs × IsFault fs fault
-IsFaultOf text (refusal.NotYet at) = ⊥
-
--- an accepted text has a form at this place that the compiler does not build yet, the first of them
-abbrev pub IsNotYet : List ℕ → ℕ → Type 0
-IsNotYet text at =
-    (length text ≤ most_bytes) × (trees : List Tree) × (fs : List Func)
-    × Reads text trees × Denotes trees fs × IsSound fs × (program_unbuilt trees ≡ Some at)
-
--- what refuses a text: its first fault, or the first form that is not built
-abbrev pub IsRefusal : List ℕ → Refusal → Type 0
-IsRefusal text refusal.InputTooLong = IsFaultOf text refusal.InputTooLong
-IsRefusal text (refusal.Text fault) = IsFaultOf text (refusal.Text fault)
-IsRefusal text (refusal.Shape fault) = IsFaultOf text (refusal.Shape fault)
-IsRefusal text (refusal.Names fault) = IsFaultOf text (refusal.Names fault)
-IsRefusal text (refusal.NotYet at) = IsNotYet text at
 
 -- the refusal is for the lowest fault of shape in the trees
 abbrev pub IsShapeRefusal : List Tree → Refusal → Type 0
@@ -50,7 +34,6 @@ IsShapeRefusal trees (refusal.Shape fault) = IsShapeFault trees fault
 IsShapeRefusal trees refusal.InputTooLong = ⊥
 IsShapeRefusal trees (refusal.Text fault) = ⊥
 IsShapeRefusal trees (refusal.Names fault) = ⊥
-IsShapeRefusal trees (refusal.NotYet at) = ⊥
 
 -- the refusal is for the fault of the program
 abbrev pub IsNameRefusal : List Func → Refusal → Type 0
@@ -58,4 +41,3 @@ IsNameRefusal fs (refusal.Names fault) = IsFault fs fault
 IsNameRefusal fs refusal.InputTooLong = ⊥
 IsNameRefusal fs (refusal.Text fault) = ⊥
 IsNameRefusal fs (refusal.Shape fault) = ⊥
-IsNameRefusal fs (refusal.NotYet at) = ⊥

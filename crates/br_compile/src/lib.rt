@@ -1,16 +1,16 @@
-//! From source texts to images.
+//! From source texts to images. `lower` makes a flat program in register form of a text, and `compile` writes
+//! its code. Both are compositions of the passes below, by their contracts.
 #![tactic(auto)]
 
 mod compiling;
-mod images;
 mod laws;
+mod lowering;
 mod refusal;
-mod sums;
+
+pub use compiling::compile;
+pub use laws::{first_steps_show_a_run, texts_are_accepted_or_at_fault};
+pub use lowering::{Lowered, MOST_BYTES, lower};
+pub use refusal::Refusal;
+
 #[cfg(test)]
 mod tests;
-mod unbuilt;
-mod writes;
-
-pub use compiling::{MOST_BYTES, compile};
-pub use laws::{first_steps_show_a_run, texts_are_accepted_or_at_fault};
-pub use refusal::Refusal;

@@ -20,7 +20,4 @@ pub enum Refusal {
     /// A name is at fault, or the program is too large, calls itself or needs too much stack.
     #[error(transparent)]
     Names(NameFault),
-    /// A form that the compiler does not build yet begins at this offset.
-    #[error("a form that is not built yet, at offset {0}")]
-    NotYet(u32),
 }

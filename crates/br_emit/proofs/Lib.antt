@@ -26,3 +26,9 @@ pub mod Planning
 pub mod Totals
 pub mod Saving
 pub mod Unrolling
+pub mod Following
+pub mod Placing
+pub mod Flags
+pub mod Encodable
+pub mod Needing
+pub mod Imaged

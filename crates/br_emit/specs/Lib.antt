@@ -5,3 +5,5 @@ pub mod Buffer
 pub mod Sizes
 pub mod Ready
 pub mod Marks
+pub mod Written
+pub mod Emitted

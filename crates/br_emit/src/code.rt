@@ -1,12 +1,13 @@
 // Words that are written one after another into room that was taken before.
 
-ghost use Rattle.std.specs.Prelude.{◌≡◌, ◌++◌, ◌∷◌, [], ◌-◌, ◌<◌, slice_set, length, IfOk};
+ghost use Rattle.std.specs.Prelude.{◌≡◌, ◌++◌, ◌∷◌, [], ◌-◌, ◌<◌, ◌^◌, All, slice_set, length, IfOk};
 ghost use Rattle.br_rv32im.specs.Encoding.{Fits};
 ghost use Rattle.br_emit.specs.Code.{Does, Raw};
 ghost use Rattle.br_emit.specs.Buffer.{appended};
 
 use br_base::NoMemory;
 use br_rv32im::{Ins, encode};
+use sqlite_items::Items;
 use std::alloc::Global;
 use std::marker::Model;
 
@@ -44,6 +45,14 @@ impl Code {
         self.words.as_slice()
     }
 
+    /// The words as items.
+    pub fn into_words(self) -> Items<u32>
+        ensures value { result ≡ self.words }
+        ensures words { All (λ w. w < 2 ^ 32) self.words }
+    {
+        items(self.words)
+    }
+
     /// One more word.
     pub fn push(&mut self, word: u32)
         requires { 0 < self.old.room }
@@ -76,4 +85,12 @@ impl Code {
     {
         self.push(u32::from_le_bytes([a, b, c, d]));
     }
+}
+
+fn items(words: Vec<u32>) -> Items<u32>
+    ensures value { result ≡ words.items }
+    ensures words { All (λ w. w < 2 ^ 32) words.items }
+{
+    let _first = words.as_slice().first();
+    Items::from_vec(words)
 }

@@ -1,26 +1,32 @@
-//! From flat programs in register form to images. What stands is the code of flat programs, as items in
-//! order, the law that the machine, running them, shows the calls of the program, and the functions that
-//! write the items of statements, lists and functions. What writes a whole program is to come.
+//! From flat programs in register form to images: the code of flat programs, as items in order, the law
+//! that the machine, running them, shows the calls of the program, and what writes them.
 //!
-//! Code is written in two passes over a function's statements. The first finds the lengths of the parts of
+//! Code is written in two passes over each function. The first finds the lengths of the parts of
 //! conditionals and loops, which the jumps over them need, and keeps them in the order in which the second
-//! pass, which writes, takes them. Neither takes memory.
+//! pass, which writes, takes them. The first pass is made twice: over all functions, so that the place of
+//! each is known before a call of it is written, and again before a function is written, so that the
+//! lengths of one function are kept at a time.
 #![tactic(auto)]
 
 mod buffer;
+mod called;
 mod code;
 mod constant_tables;
+mod emission;
 mod framing;
 mod functions;
 mod jumps;
 mod laws;
 mod measuring;
 mod numbers;
+mod places;
+mod programs;
 mod registers;
 mod straight;
 mod writing;
 
 pub use buffer::CodeBuffer;
+pub use emission::emit;
 pub use laws::{called_entries_show_calls, code_shows_its_program, direct_entries_show_calls};
 
 #[cfg(test)]

@@ -27,10 +27,10 @@ impl Model for Numbers {
 
 impl Numbers {
     /// No numbers, and room for so many.
-    pub fn with_room(alloc: Global, room: u32) -> Result<Numbers, NoMemory>
+    pub fn with_room(alloc: Global, room: usize) -> Result<Numbers, NoMemory>
         ensures { IfOk result (λ l. l ≡ record { numbers = []; room = room }) }
     {
-        let numbers = Vec::with_capacity(alloc, room as usize)?;
+        let numbers = Vec::with_capacity(alloc, room)?;
         Ok(Numbers { numbers })
     }
 

@@ -112,7 +112,7 @@ fn is_among(x: u32, xs: &[u32]) -> bool
 }
 
 /// Sets the flag of a number, where it has one.
-fn mark(flags: &mut [bool], x: u32)
+pub fn mark(flags: &mut [bool], x: u32)
     ensures { flags.new ≡ marked flags.old (x ∷ []) }
 {
     if (x as usize) < flags.len() {

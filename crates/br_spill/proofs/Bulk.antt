@@ -15,7 +15,9 @@ use Rattle.br_flatimp.specs.declared.program.FlatFunc.{FlatFunc}
 use Rattle.br_flatimp.specs.Parts.{parts}
 use Rattle.br_flatimp.specs.Sizes.{words_for, own_units, added, units, own_words, statement_bulk, function_bulk, flat_bulk}
 use Rattle.br_spill.proofs.Sizes.{sum_cons}
-use Rattle.br_spill.specs.Spill.{Place, Register, Slot, Layout, fetch, put_away, bring, at, keep, put, pass, copy, bring_operand, operand_at, bring_test, test_at, in_order, passes, takes, joined, spilled_step, spilled, in_buffer, spilled_function, SpilledFunctions}
+use Rattle.br_spill.specs.Spill.{Layout, fetch, put_away, bring, at, keep, put, pass, copy, bring_operand, operand_at, bring_test, test_at, in_order, passes, takes, joined, spilled_step, spilled, in_buffer, spilled_function, SpilledFunctions}
+use Rattle.br_spill.specs.declared.place.Place.{Place}
+use Rattle.br_spill.specs.declared.place.Place.TheVariants.{Register, Slot}
 
 -- ---- sums
 

@@ -17,7 +17,9 @@ use Rattle.br_flatimp.specs.declared.program.Stmt.TheFolds.{fold-roll-Stmt}
 use Rattle.br_flatimp.specs.declared.program.FlatFunc.{FlatFunc}
 use Rattle.br_flatimp.specs.Parts.{parts, throughout, operand_names, test_names}
 use Rattle.br_flatimp.specs.WellFormed.{is_immediate, operand_fits, all_differ, counts_fit, are_below, fits, is_in_order, is_passing, are_registers, uses_registers}
-use Rattle.br_spill.specs.Spill.{Place, Register, Slot, Layout, holds_names, is_inside, Fits, fetch, put_away, bring, at, keep, put, pass, copy, bring_operand, operand_at, bring_test, test_at, passes, takes, in_order}
+use Rattle.br_spill.specs.Spill.{Layout, holds_names, is_inside, Fits, fetch, put_away, bring, at, keep, put, pass, copy, bring_operand, operand_at, bring_test, test_at, passes, takes, in_order}
+use Rattle.br_spill.specs.declared.place.Place.{Place}
+use Rattle.br_spill.specs.declared.place.Place.TheVariants.{Register, Slot}
 
 -- ---- registers
 

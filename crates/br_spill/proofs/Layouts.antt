@@ -1,15 +1,12 @@
 -- The layout of a count of names gives each name a place of its own.
-use Rattle.std.proofs.Common.{◌≡◌, ℕ, ◌+◌, ◌-◌, ◌<◌, ◌≤◌, nat_le, nat_lt, Bool, true, false, if◌then◌else◌, List, [], ◌∷◌, refl, ap, arith}
+use Rattle.std.proofs.Common.{min, ◌&&◌, ◌≡◌, ℕ, ◌+◌, ◌-◌, ◌<◌, ◌≤◌, nat_le, nat_lt, Bool, true, false, if◌then◌else◌, List, [], ◌∷◌, refl, ap, arith}
 use Rattle.std.proofs.lemmas.Bool.Decides.{nat_tests}
 use Rattle.br_flatimp.specs.declared.program.FlatFunc.{FlatFunc}
-use Rattle.br_spill.specs.Spill.{Place, Register, Slot, Layout, holds_names, is_inside, Fits, register_of, layout_of, spilled_program, SpilledFunctions}
-
--- the places of a function without a buffer, and of one with a buffer
-abbrev few_places : ℕ → Place
-few_places x = Register (register_of 3 x)
-
-abbrev more_places : ℕ → Place
-more_places x = if nat_lt x 18 then Register (register_of 6 x) else Slot (x - 18)
+use Rattle.std.specs.List.{list_all}
+use Rattle.br_flatimp.specs.WellFormed.{is_list_of_names, is_well_formed_statement, is_well_formed_head, is_well_formed_function, names_differ, IsWellFormed}
+use Rattle.br_spill.proofs.Form.{and-first, and-second, both}
+use Rattle.br_spill.specs.Spill.{Layout, holds_names, is_inside, Fits, register_of, few_places, more_places, layout_of, spilled_program, SpilledFunctions}
+use Rattle.br_spill.specs.declared.place.Place.TheVariants.{Register, Slot}
 
 register-same : (r q : ℕ) → Register r ≡ Register q → r ≡ q
 register-same r q e = cc e
@@ -22,12 +19,12 @@ slot-same r q e = cc e
 few-inside : (x : ℕ) → x < 21 → holds_names 0 (register_of 3 x) ≡ true
 few-inside x less = by (nat_lt x 7) refl
   where
-    by : (b : Bool) → nat_lt x 7 ≡ b → holds_names 0 (if b then 3 + x else x + 3 + 8) ≡ true
+    by : (b : Bool) → nat_lt x 7 ≡ b → holds_names 0 (if b then 3 + x else min x 20 + 3 + 8) ≡ true
     by true e = low (3 + x) (omega arith) (let l : x < 7 = grind (arith, nat_tests) in omega (arith, l))
       where
         low : (r : ℕ) → 3 ≤ r → r ≤ 9 → holds_names 0 r ≡ true
         low r a b = grind (arith, nat_tests)
-    by false e = high (x + 3 + 8) (let l : 7 ≤ x = grind (arith, nat_tests) in omega (arith, l)) (omega (arith, less))
+    by false e = high (min x 20 + 3 + 8) (let l : 7 ≤ x = grind (arith, nat_tests) in omega (arith, l)) (omega (arith, less))
       where
         high : (r : ℕ) → 18 ≤ r → r ≤ 31 → holds_names 0 r ≡ true
         high r a b = grind (arith, nat_tests)
@@ -35,78 +32,81 @@ few-inside x less = by (nat_lt x 7) refl
 more-inside : (slots x : ℕ) → x < 18 → holds_names slots (register_of 6 x) ≡ true
 more-inside slots x less = by (nat_lt x 4) refl
   where
-    by : (b : Bool) → nat_lt x 4 ≡ b → holds_names slots (if b then 6 + x else x + 6 + 8) ≡ true
+    by : (b : Bool) → nat_lt x 4 ≡ b → holds_names slots (if b then 6 + x else min x 20 + 6 + 8) ≡ true
     by true e = low (6 + x) (omega arith) (let l : x < 4 = grind (arith, nat_tests) in omega (arith, l))
       where
         low : (r : ℕ) → 6 ≤ r → r ≤ 9 → holds_names slots r ≡ true
         low r a b = grind (arith, nat_tests)
-    by false e = high (x + 6 + 8) (let l : 4 ≤ x = grind (arith, nat_tests) in omega (arith, l)) (omega (arith, less))
+    by false e = high (min x 20 + 6 + 8) (let l : 4 ≤ x = grind (arith, nat_tests) in omega (arith, l)) (omega (arith, less))
       where
         high : (r : ℕ) → 18 ≤ r → r ≤ 31 → holds_names slots r ≡ true
         high r a b = grind (arith, nat_tests)
 
-few-apart : (x y : ℕ) → register_of 3 x ≡ register_of 3 y → x ≡ y
-few-apart x y e = by (nat_lt x 7) (nat_lt y 7) refl refl e
+few-apart : (x y : ℕ) → x ≤ 20 → y ≤ 20 → register_of 3 x ≡ register_of 3 y → x ≡ y
+few-apart x y r s e = by (nat_lt x 7) (nat_lt y 7) refl refl e
   where
-    by : (a b : Bool) → nat_lt x 7 ≡ a → nat_lt y 7 ≡ b → (if a then 3 + x else x + 3 + 8) ≡ (if b then 3 + y else y + 3 + 8) → x ≡ y
+    by : (a b : Bool) → nat_lt x 7 ≡ a → nat_lt y 7 ≡ b → (if a then 3 + x else min x 20 + 3 + 8) ≡ (if b then 3 + y else min y 20 + 3 + 8) → x ≡ y
     by true true f g e = omega (arith, e)
-    by false false f g e = omega (arith, e)
+    by false false f g e = omega (arith, e, r, s)
     by true false f g e = let l : x < 7 = grind (arith, nat_tests) in absurd (omega (arith, e, l))
     by false true f g e = let l : y < 7 = grind (arith, nat_tests) in absurd (omega (arith, e, l))
 
-more-apart : (x y : ℕ) → register_of 6 x ≡ register_of 6 y → x ≡ y
-more-apart x y e = by (nat_lt x 4) (nat_lt y 4) refl refl e
+more-apart : (x y : ℕ) → x ≤ 20 → y ≤ 20 → register_of 6 x ≡ register_of 6 y → x ≡ y
+more-apart x y r s e = by (nat_lt x 4) (nat_lt y 4) refl refl e
   where
-    by : (a b : Bool) → nat_lt x 4 ≡ a → nat_lt y 4 ≡ b → (if a then 6 + x else x + 6 + 8) ≡ (if b then 6 + y else y + 6 + 8) → x ≡ y
+    by : (a b : Bool) → nat_lt x 4 ≡ a → nat_lt y 4 ≡ b → (if a then 6 + x else min x 20 + 6 + 8) ≡ (if b then 6 + y else min y 20 + 6 + 8) → x ≡ y
     by true true f g e = omega (arith, e)
-    by false false f g e = omega (arith, e)
+    by false false f g e = omega (arith, e, r, s)
     by true false f g e = let l : x < 4 = grind (arith, nat_tests) in absurd (omega (arith, e, l))
     by false true f g e = let l : y < 4 = grind (arith, nat_tests) in absurd (omega (arith, e, l))
 
-places-apart : (x y : ℕ) → more_places x ≡ more_places y → x ≡ y
-places-apart x y e = by (nat_lt x 18) (nat_lt y 18) refl refl e
+places-apart : (x y : ℕ) → x ≤ 1048575 → y ≤ 1048575 → more_places x ≡ more_places y → x ≡ y
+places-apart x y small small2 e = by (nat_lt x 18) (nat_lt y 18) refl refl e
   where
-    by : (a b : Bool) → nat_lt x 18 ≡ a → nat_lt y 18 ≡ b → (if a then Register (register_of 6 x) else Slot (x - 18)) ≡ (if b then Register (register_of 6 y) else Slot (y - 18)) → x ≡ y
-    by true true f g e = more-apart x y (register-same (register_of 6 x) (register_of 6 y) e)
+    by : (a b : Bool) → nat_lt x 18 ≡ a → nat_lt y 18 ≡ b → (if a then Register (register_of 6 x) else Slot (min x 1048575 - 18)) ≡ (if b then Register (register_of 6 y) else Slot (min y 1048575 - 18)) → x ≡ y
+    by true true f g e =
+        let l : x < 18 = grind (arith, nat_tests) in
+        let r : y < 18 = grind (arith, nat_tests) in
+        more-apart x y (omega (arith, l)) (omega (arith, r)) (register-same (register_of 6 x) (register_of 6 y) e)
     by false false f g e =
-        let is = slot-same (x - 18) (y - 18) e in
+        let is = slot-same (min x 1048575 - 18) (min y 1048575 - 18) e in
         let l : 18 ≤ x = grind (arith, nat_tests) in
         let r : 18 ≤ y = grind (arith, nat_tests) in
-        omega (arith, is, l, r)
+        omega (arith, is, l, r, small, small2)
     by true false f g e = absurd (cc e)
     by false true f g e = absurd (cc e)
 
 -- ---- layouts
 
-pub layout-fits : (names : ℕ) → Fits names (layout_of names)
-layout-fits names = by (nat_le names 21) refl
+pub layout-fits : (names : ℕ) → names ≤ 1048576 → Fits names (layout_of names)
+layout-fits names most = by (nat_le names 21) refl
   where
-    by : (b : Bool) → nat_le names 21 ≡ b → Fits names (if b then record { place = few_places; slots = 0 } else record { place = more_places; slots = names - 18 })
+    by : (b : Bool) → nat_le names 21 ≡ b → Fits names (if b then record { place = few_places; slots = 0 } else record { place = more_places; slots = min names 1048576 - 18 })
     by true e =
         let few : names ≤ 21 = grind (arith, nat_tests) in
         record {
           inside = λ x less. few-inside x (omega (arith, few, less));
-          apart = λ x y less under same. few-apart x y (register-same (register_of 3 x) (register_of 3 y) same);
+          apart = λ x y less under same. few-apart x y (omega (arith, few, less)) (omega (arith, few, under)) (register-same (register_of 3 x) (register_of 3 y) same);
           few = omega arith;
         }
     by false e = record {
       inside = λ x less. inside x less (nat_lt x 18) refl;
-      apart = λ x y less under same. places-apart x y same;
+      apart = λ x y less under same. places-apart x y (omega (arith, less, most)) (omega (arith, under, most)) same;
       few = omega arith;
     }
       where
-        inside : (x : ℕ) → x < names → (b : Bool) → nat_lt x 18 ≡ b → is_inside (names - 18) (if b then Register (register_of 6 x) else Slot (x - 18)) ≡ true
-        inside x less true f = more-inside (names - 18) x (grind (arith, nat_tests))
+        inside : (x : ℕ) → x < names → (b : Bool) → nat_lt x 18 ≡ b → is_inside (min names 1048576 - 18) (if b then Register (register_of 6 x) else Slot (min x 1048575 - 18)) ≡ true
+        inside x less true f = more-inside (min names 1048576 - 18) x (grind (arith, nat_tests))
         inside x less false f =
             let l : 18 ≤ x = grind (arith, nat_tests) in
-            slot (x - 18) (names - 18) (omega (arith, l, less))
+            slot (min x 1048575 - 18) (min names 1048576 - 18) (omega (arith, l, less, most))
           where
             slot : (a b : ℕ) → a < b → nat_lt a b ≡ true
             slot a b l = grind (arith, nat_tests)
 
 -- the layout, by the test of the count
 abbrev layout_by : ℕ → Bool → Layout
-layout_by names b = if b then record { place = few_places; slots = 0 } else record { place = more_places; slots = names - 18 }
+layout_by names b = if b then record { place = few_places; slots = 0 } else record { place = more_places; slots = min names 1048576 - 18 }
 
 pub few-slots : (names : ℕ) → names ≤ 21 → (layout_of names).slots ≡ 0
 few-slots names few = ap (λ b. (layout_by names b).slots) (test names few)
@@ -114,6 +114,27 @@ few-slots names few = ap (λ b. (layout_by names b).slots) (test names few)
     test : (names : ℕ) → names ≤ 21 → nat_le names 21 ≡ true
     test names few = grind (arith, nat_tests)
 
-pub program-spilled : (fs : List FlatFunc) → SpilledFunctions (spilled_program fs) fs
-program-spilled [] = tt
-program-spilled (f ∷ fs) = ((layout_of f.names, layout-fits f.names, refl), program-spilled fs)
+pub program-spilled : (fs : List FlatFunc) → list_all is_well_formed_head fs ≡ true → SpilledFunctions (spilled_program fs) fs
+program-spilled [] h = tt
+program-spilled (f ∷ fs) h =
+    ((layout_of f.names, layout-fits f.names (most f (and-first (is_well_formed_head f) (list_all is_well_formed_head fs) h)), refl), program-spilled fs (and-second (is_well_formed_head f) (list_all is_well_formed_head fs) h))
+  where
+    at-most : (a b : ℕ) → nat_le a b ≡ true → a ≤ b
+    at-most a b e = grind (arith, nat_tests)
+
+    most : (f : FlatFunc) → is_well_formed_head f ≡ true → f.names ≤ 1048576
+    most f h = at-most f.names 1048576 (three (nat_le f.names 1048576) (is_list_of_names f.names f.args) (is_list_of_names f.names f.results) h)
+      where
+        three : (a b c : Bool) → (a && b && c) ≡ true → a ≡ true
+        three true b c h = refl
+        three false b c h = absurd (cc h)
+
+-- heads that are well formed, of functions that are
+heads : (ps fs : List FlatFunc) → list_all (is_well_formed_function ps) fs ≡ true → list_all is_well_formed_head fs ≡ true
+heads ps [] h = refl
+heads ps (f ∷ fs) h =
+    both (is_well_formed_head f) (list_all is_well_formed_head fs) (and-first (is_well_formed_head f) (list_all (is_well_formed_statement ps f.names) f.body) (and-first (is_well_formed_function ps f) (list_all (is_well_formed_function ps) fs) h))
+    (heads ps fs (and-second (is_well_formed_function ps f) (list_all (is_well_formed_function ps) fs) h))
+
+pub well-formed-spilled : (fs : List FlatFunc) → IsWellFormed fs → SpilledFunctions (spilled_program fs) fs
+well-formed-spilled fs h = program-spilled fs (heads fs fs (and-second (names_differ fs) (list_all (is_well_formed_function fs) fs) h))

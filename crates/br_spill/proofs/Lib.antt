@@ -14,3 +14,7 @@ pub mod Bulk
 pub mod Form
 pub mod Formed
 pub mod Layouts
+pub mod Parts
+pub mod InOrder
+pub mod Codes
+pub mod BytesFit

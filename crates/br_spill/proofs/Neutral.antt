@@ -13,7 +13,9 @@ use Rattle.br_flatimp.specs.declared.program.Stmt.{Stmt, map-Stmt}
 use Rattle.br_flatimp.specs.declared.program.Stmt.TheOpen.{Stmt-F}
 use Rattle.br_flatimp.specs.declared.program.Stmt.TheViews.{roll-Stmt}
 use Rattle.br_flatimp.specs.declared.program.Stmt.TheFolds.{fold-Stmt, fold-roll-Stmt, ind-Stmt}
-use Rattle.br_spill.specs.Spill.{Place, Register, Slot, Layout, fetch, put_away, bring, at, keep, put, pass, copy, bring_operand, operand_at, bring_test, test_at, in_order, passes, takes, joined, spilled_step, spilled}
+use Rattle.br_spill.specs.Spill.{Layout, fetch, put_away, bring, at, keep, put, pass, copy, bring_operand, operand_at, bring_test, test_at, in_order, passes, takes, joined, spilled_step, spilled}
+use Rattle.br_spill.specs.declared.place.Place.{Place}
+use Rattle.br_spill.specs.declared.place.Place.TheVariants.{Register, Slot}
 
 -- What is counted of statements: `all` puts it together for statements in turn, with `plus` and `none`.
 pub record Counted (X : Type 0) : Type 0 where

@@ -25,7 +25,9 @@ use Rattle.br_flatimp.specs.Values.{Locals, with_local, with_locals, words_of, o
 use Rattle.br_flatimp.specs.WellFormed.{are_below}
 use Rattle.br_flatimp.specs.Runs.{State, Run, Callee, forgets_none, set_to, statement_step, run, run_all}
 use Rattle.br_flatimp.proofs.Lists.{run_all-append}
-use Rattle.br_spill.specs.Spill.{Place, Register, Slot, fetch, put_away, bring, at, keep, put, pass, passes, takes, in_order}
+use Rattle.br_spill.specs.Spill.{fetch, put_away, bring, at, keep, put, pass, passes, takes, in_order}
+use Rattle.br_spill.specs.declared.place.Place.{Place}
+use Rattle.br_spill.specs.declared.place.Place.TheVariants.{Register, Slot}
 use Rattle.br_spill.proofs.Extra.{Stands, stands-read, low_bytes-length}
 use Rattle.br_spill.proofs.Scene.{Scene, Held, At, in_register, in_slot, not_passing, from_six, free-passing, free-spare, at-free, with-same, with-other, at-register, at-slot}
 

@@ -10,7 +10,9 @@ use Rattle.br_bytes.specs.Memory.{Memory, place, put_number}
 use Rattle.br_bytes.specs.Buffers.{AreWords, AreChoices}
 use Rattle.br_flatimp.specs.Values.{Locals, with_local}
 use Rattle.br_flatimp.specs.Runs.{State, set_to}
-use Rattle.br_spill.specs.Spill.{Place, Register, Slot, Layout, holds_names, is_inside, Fits}
+use Rattle.br_spill.specs.Spill.{Layout, holds_names, is_inside, Fits}
+use Rattle.br_spill.specs.declared.place.Place.{Place}
+use Rattle.br_spill.specs.declared.place.Place.TheVariants.{Register, Slot}
 use Rattle.br_spill.proofs.Follows.{Shown}
 use Rattle.br_spill.proofs.Extra.{Extra, Byte, Extends, equal_or, low_bytes-length, with_extra, extra-other, extra-some, Stands, stands-kept, stands-written, extra-put}
 

@@ -21,7 +21,9 @@ use Rattle.br_flatimp.specs.Values.{Locals, with_local, operand_word, moved}
 use Rattle.br_flatimp.specs.Parts.{operand_names}
 use Rattle.br_flatimp.specs.WellFormed.{are_below}
 use Rattle.br_flatimp.specs.Runs.{State, Run, Callee, set_to}
-use Rattle.br_spill.specs.Spill.{Place, Register, Slot, bring, at, keep, pass, copy, bring_operand, operand_at}
+use Rattle.br_spill.specs.Spill.{bring, at, keep, pass, copy, bring_operand, operand_at}
+use Rattle.br_spill.specs.declared.place.Place.{Place}
+use Rattle.br_spill.specs.declared.place.Place.TheVariants.{Register, Slot}
 use Rattle.br_spill.proofs.Follows.{given, Follows, follows-from, follows-goes, follows-alone, follows-source, follows-read_device, follows-write_device}
 use Rattle.br_spill.proofs.Extra.{Extends, extends-get, extends-put, number_small, size_small}
 use Rattle.br_spill.proofs.Scene.{Scene, Holds, At, at-shown, in_register, from_six}

@@ -2,7 +2,7 @@
 -- a word of one buffer that stands around the body of its function. A word of the buffer is loaded to a spare
 -- register before it is read and stored from one after it is written. Words are passed in registers that hold
 -- no name.
-use Rattle.std.specs.Prelude.{◌≡◌, ℕ, zero, suc, ◌+◌, ◌-◌, ◌*◌, ◌^◌, ◌<◌, ◌≤◌, Bool, true, ◌&&◌, ◌||◌, List, [], ◌∷◌, ◌++◌, map, sum, length, IsTrue, nat_lt, nat_le, ◌==◌, pos, if◌then◌else◌}
+use Rattle.std.specs.Prelude.{◌≡◌, ℕ, zero, suc, ◌+◌, ◌-◌, ◌*◌, ◌^◌, ◌<◌, ◌≤◌, Bool, true, ◌&&◌, ◌||◌, List, [], ◌∷◌, ◌++◌, map, sum, length, IsTrue, min, nat_lt, nat_le, ◌==◌, pos, if◌then◌else◌}
 use Rattle.std.specs.List.{flat_map, list_all}
 use Rattle.br_words.specs.declared.operation.BinOp.TheVariants.{Add}
 use Rattle.br_words.specs.declared.size.Size.TheVariants.{Four}
@@ -15,17 +15,17 @@ use Rattle.br_flatimp.specs.declared.program.Stmt.TheOpen.{Stmt-F}
 use Rattle.br_flatimp.specs.declared.program.Stmt.TheViews.{roll-Stmt}
 use Rattle.br_flatimp.specs.declared.program.Stmt.TheFolds.{fold-Stmt}
 use Rattle.br_flatimp.specs.declared.program.FlatFunc.{FlatFunc}
+use Rattle.br_spill.specs.declared.place.Place.{Place}
+use Rattle.br_spill.specs.declared.place.Place.TheVariants.{Register, Slot}
 use Rattle.br_flatimp.specs.Parts.{throughout}
 use Rattle.br_flatimp.specs.Sizes.{added}
 
 -- ---- places
 
--- where the word of a name stands
-pub data Place : Type 0 where
-  -- in a register
-  Register : ℕ → Place
-  -- in a word of the function's buffer, counted from 0
-  Slot : ℕ → Place
+-- a register, or one of the first words of a buffer, so that its offset is a word
+abbrev pub IsNear : Place → Type 0
+IsNear (Register r) = Unit {0}
+IsNear (Slot k) = k ≤ 1048576
 
 pub record Layout : Type 0 where
   -- the place of each name
@@ -232,15 +232,22 @@ HasWords fs = IsTrue (list_all function_words_fit fs)
 
 -- ---- the layout of a count of names
 
--- the name numbered x in registers from `first` to 9, and from 18 on
+-- The name numbered x in registers from `first` to 9, and from 18 to 31.
 abbrev pub register_of : ℕ → ℕ → ℕ
-register_of first x = if nat_lt x (10 - first) then first + x else x + first + 8
+register_of first x = if nat_lt x (10 - first) then first + x else min x 20 + first + 8
 
--- Up to 21 names have registers alone. Of more, the first 18 have registers.
+abbrev pub few_places : ℕ → Place
+few_places x = Register (register_of 3 x)
+
+abbrev pub more_places : ℕ → Place
+more_places x = if nat_lt x 18 then Register (register_of 6 x) else Slot (min x 1048575 - 18)
+
+-- Up to 21 names have registers alone. Of more, the first 18 have registers. A function has at most 1,048,576
+-- names; a number past the last of them counts as the last.
 abbrev pub layout_of : ℕ → Layout
 layout_of names =
-    if nat_le names 21 then record { place = λ x. Register (register_of 3 x); slots = 0 }
-    else record { place = λ x. if nat_lt x 18 then Register (register_of 6 x) else Slot (x - 18); slots = names - 18 }
+    if nat_le names 21 then record { place = few_places; slots = 0 }
+    else record { place = more_places; slots = min names 1048576 - 18 }
 
 -- a program in register form
 abbrev pub spilled_program : List FlatFunc → List FlatFunc

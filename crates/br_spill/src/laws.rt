@@ -38,7 +38,7 @@ pub fn spilled_functions_keep_sizes()
 
 /// The layout of a count of names gives each its own place, and up to 21 names a register.
 pub fn layouts_fit()
-    ensures fits { (names : ℕ) → Fits names (layout_of names) }
+    ensures fits { (names : ℕ) → names ≤ 1048576 → Fits names (layout_of names) }
     ensures few { (names : ℕ) → names ≤ 21 → (layout_of names).slots ≡ 0 }
-    ensures program { (fs : List FlatFunc) → SpilledFunctions (spilled_program fs) fs }
+    ensures program { (fs : List FlatFunc) → IsWellFormed fs → SpilledFunctions (spilled_program fs) fs }
 {}

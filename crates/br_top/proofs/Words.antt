@@ -4,7 +4,7 @@ use Rattle.std.specs.Prelude.{ℕ, map, String, Bool, true, false, ◌&&◌, if�
 use Rattle.std.specs.Str.{bytes_eq}
 use Rattle.std.specs.declared.alloc.Global.{Global}
 use Rattle.br_top.specs.declared.command.Command.{Command}
-use Rattle.br_top.specs.declared.command.Command.TheVariants.{Compile, Print, List as Listing, Run, Interp, Judge}
+use Rattle.br_top.specs.declared.command.Command.TheVariants.{Compile, Print, List as Listing, Run, Interp, Firmware, Judge}
 use Rattle.br_top.specs.Commands.{words_of, AreWordsOf}
 
 -- the image of a list of one element
@@ -27,7 +27,7 @@ first_of (c ∷ cs) words = if same_texts (words_of c) words then Some c else fi
 
 -- the command with these words
 named : List (List ℕ) → Option Command
-named words = first_of (Compile ∷ Print ∷ Listing ∷ Run ∷ Interp ∷ Judge ∷ []) words
+named words = first_of (Compile ∷ Print ∷ Listing ∷ Run ∷ Interp ∷ Firmware ∷ Judge ∷ []) words
 
 -- each command is found by its words
 found : (c : Command) → named (words_of c) ≡ Some c
@@ -37,6 +37,7 @@ found Print = refl
 found Listing = refl
 found Run = refl
 found Interp = refl
+found Firmware = refl
 found Judge = refl
 
 -- words are those of one command

@@ -1,5 +1,5 @@
 -- What each answer of the top call says of its ends.
-use Rattle.std.specs.Prelude.{ℕ, ◌≡◌, ◌+◌, ◌≤◌, List, length, Option, ◌⊎◌, String, IsTrue}
+use Rattle.std.specs.Prelude.{ℕ, ◌≡◌, ◌+◌, ◌≤◌, List, length, Option, ◌⊎◌, String, IsTrue, IsFalse}
 use Rattle.std.specs.declared.alloc.Global.{Global}
 use Rattle.std.specs.Io.KnownBytes.{Consumes, IsAtEnd}
 use Rattle.br_base.specs.Ends.{ConsumesMany, ConsumesAtMost}
@@ -11,25 +11,27 @@ use Rattle.br_top.specs.Commands.{AreWordsOf, reads_input, limit_of, Adds, Refus
 
 -- The bytes that an end tells, before a call and after it, are written `before` and `after`.
 
--- a command's input was read to its end and these were all its bytes
+-- a command's input was read to its end and these were all its bytes; a command that does not read its
+-- input took none
 pub record ReadsAll (command : Command) (before after : Option (List ℕ)) (bytes : List ℕ) : Type 0 where
   pub taken : Consumes before after bytes
-  pub end : IsAtEnd after
+  pub end : IsTrue (reads_input command) → IsAtEnd after
+  pub unread : IsFalse (reads_input command) → after ≡ before
   pub within : length bytes ≤ limit_of command
 
 -- what was read of a command's input is refused for this reason: it was read to the byte behind the
 -- limit, or to its end, and the command refuses these bytes
 abbrev pub ReadsRefused : Command → Option (List ℕ) → Option (List ℕ) → Reason → Type 0
 ReadsRefused command before after reason =
-    ((reason ≡ TooLong) × ConsumesMany before after (limit_of command + 1))
+    ((reason ≡ TooLong) × IsTrue (reads_input command) × ConsumesMany before after (limit_of command + 1))
     ⊎ ((bytes : List ℕ) × ReadsAll command before after bytes × Refuses command bytes reason)
 
 -- nothing refuses an input of these bytes
 abbrev pub IsUnrefused : Command → List ℕ → Type 0
 IsUnrefused command bytes = (reason : Reason) → ¬ Refuses command bytes reason
 
--- the words are a command's, its input was read to its end, nothing refuses its bytes, and it adds this
--- text for them
+-- the words are a command's, its input was read to its end if it reads it, nothing refuses its bytes, and
+-- it adds this text for them
 abbrev pub IsDueText : List (String Global) → Option (List ℕ) → Option (List ℕ) → List ℕ → Type 0
 IsDueText words before after text =
     (command : Command) × (bytes : List ℕ) × AreWordsOf words command × ReadsAll command before after bytes

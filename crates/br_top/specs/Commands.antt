@@ -1,5 +1,5 @@
 -- The commands: their words, how much they read, what they make of it, and what they refuse.
-use Rattle.std.specs.Prelude.{ℕ, ◌≡◌, ◌<◌, List, [], ◌∷◌, length, codes, map, ⊤, String, Bool, true}
+use Rattle.std.specs.Prelude.{ℕ, ◌≡◌, ◌<◌, List, [], ◌∷◌, length, codes, map, ⊤, String, Bool, true, false}
 use Rattle.std.specs.declared.alloc.Global.{Global}
 use Rattle.std.specs.String.{string_bytes}
 use Rattle.br_bytes.specs.declared.run.Event.{Event}
@@ -13,13 +13,14 @@ use Rattle.br_image.specs.Printed.{image_text}
 use Rattle.br_image.specs.Faults.{IsFault}
 use Rattle.br_image.specs.Traces.{IsTrace, IsTraceFault}
 use Rattle.br_texts.specs.Verdict.{IsVerdict}
+use Rattle.br_lightbulb.specs.Firmware.{IsFirmwareUpToOffsets}
 use Rattle.br_listing.specs.Text.{list_text}
 use Rattle.br_compile.specs.declared.refusal.Refusal.{Refusal}
-use Rattle.br_compile.specs.declared.refusal.Refusal.TheVariants.{InputTooLong, Text, Shape, Names, NotYet}
-use Rattle.br_compile.specs.Refusal.{Accepts, IsRefusal}
+use Rattle.br_compile.specs.declared.refusal.Refusal.TheVariants.{InputTooLong, Text, Shape, Names}
+use Rattle.br_compile.specs.Refusal.{Accepts, IsFaultOf}
 use Rattle.br_compile.specs.Implements.{Implements}
 use Rattle.br_top.specs.declared.command.Command.{Command}
-use Rattle.br_top.specs.declared.command.Command.TheVariants.{Compile, Print, List as Listing, Run, Interp, Judge}
+use Rattle.br_top.specs.declared.command.Command.TheVariants.{Compile, Print, List as Listing, Run, Interp, Firmware, Judge}
 use Rattle.br_top.specs.declared.trouble.Reason.{Reason}
 use Rattle.br_top.specs.declared.trouble.Reason.TheVariants.{TooLong, Source, Image, Trace}
 use Rattle.br_top.specs.Scripted.{AddsRun, AddsInterp, RefusesRun, RefusesInterp}
@@ -31,6 +32,7 @@ words_of Print = codes "print" ∷ []
 words_of Listing = codes "list" ∷ []
 words_of Run = codes "run" ∷ []
 words_of Interp = codes "interp" ∷ []
+words_of Firmware = codes "firmware" ∷ []
 words_of Judge = codes "judge" ∷ []
 
 -- these texts are the words of the command
@@ -48,15 +50,17 @@ reads_input Print = true
 reads_input Listing = true
 reads_input Run = true
 reads_input Interp = true
+reads_input Firmware = false
 reads_input Judge = true
 
--- how many bytes of input a command reads at most
+-- how many bytes of input a command reads at most, which is 0 where it does not read it
 abbrev pub limit_of : Command → ℕ
 limit_of Compile = 1048576
 limit_of Print = 1048576
 limit_of Listing = 16777216
 limit_of Run = 16777216
 limit_of Interp = 16777216
+limit_of Firmware = 0
 limit_of Judge = 16777216
 
 -- the text of an image that implements the program of these bytes, which are an accepted text
@@ -81,6 +85,14 @@ pub record AddsListing (bytes text : List ℕ) : Type 0 where
   pub read : bytes ≡ image_text image
   pub listed : text ≡ list_text image
 
+-- the canonical text of trees that stand for the firmware, whatever its offsets are
+pub record AddsFirmware (text : List ℕ) : Type 0 where
+  pub trees : List Tree
+  pub program : List Func
+  pub denoted : Denotes trees program
+  pub firmware : IsFirmwareUpToOffsets program
+  pub printed : text ≡ canonical trees
+
 -- the verdict on the events that these bytes tell
 pub record AddsVerdict (bytes text : List ℕ) : Type 0 where
   pub events : List Event
@@ -94,6 +106,7 @@ Adds Print bytes text = AddsCanonical bytes text
 Adds Listing bytes text = AddsListing bytes text
 Adds Run bytes text = AddsRun bytes text
 Adds Interp bytes text = AddsInterp bytes text
+Adds Firmware bytes text = AddsFirmware text
 Adds Judge bytes text = AddsVerdict bytes text
 
 -- the refusal is for a fault of the text or of its shape, which come before all others
@@ -102,14 +115,14 @@ IsOfShape InputTooLong = ⊥
 IsOfShape (Text fault) = ⊤
 IsOfShape (Shape fault) = ⊤
 IsOfShape (Names fault) = ⊥
-IsOfShape (NotYet at) = ⊥
 
--- the command refuses these bytes, for this reason
+-- the command refuses these bytes, for this reason; one that does not read its input refuses nothing
 abbrev pub Refuses : Command → List ℕ → Reason → Type 0
+Refuses Firmware bytes reason = ⊥
 Refuses command bytes TooLong = limit_of command < length bytes
-Refuses Compile bytes (Source refusal) = IsRefusal bytes refusal
+Refuses Compile bytes (Source refusal) = IsFaultOf bytes refusal
 Refuses Compile bytes other = ⊥
-Refuses Print bytes (Source refusal) = IsRefusal bytes refusal × IsOfShape refusal
+Refuses Print bytes (Source refusal) = IsFaultOf bytes refusal × IsOfShape refusal
 Refuses Print bytes other = ⊥
 Refuses Listing bytes (Image fault) = IsFault bytes fault
 Refuses Listing bytes other = ⊥

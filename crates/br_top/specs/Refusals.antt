@@ -9,7 +9,7 @@ use Rattle.br_syntax.specs.declared.faults.ShapeFault.TheVariants.{BadForm, BadS
 use Rattle.br_measure.specs.declared.faults.NameFault.{NameFault}
 use Rattle.br_measure.specs.declared.faults.NameFault.TheVariants.{DuplicateFunction, UnknownFunction, WrongArguments, WrongResults, UnknownAction, TooLarge, Recursion, StackTooDeep}
 use Rattle.br_compile.specs.declared.refusal.Refusal.{Refusal}
-use Rattle.br_compile.specs.declared.refusal.Refusal.TheVariants.{InputTooLong, Text, Shape, Names, NotYet}
+use Rattle.br_compile.specs.declared.refusal.Refusal.TheVariants.{InputTooLong, Text, Shape, Names}
 use Rattle.br_image.specs.declared.faults.ImageFault.{ImageFault}
 use Rattle.br_image.specs.declared.faults.ImageFault.TheVariants.{BadLine, BadOrder, BadOffset, Truncated}
 use Rattle.br_image.specs.declared.scripts.values.ScriptFault.{ScriptFault}
@@ -57,7 +57,6 @@ refusal_line InputTooLong = refused_line (codes "InputTooLong") []
 refusal_line (Text fault) = text_fault_line fault
 refusal_line (Shape fault) = shape_fault_line fault
 refusal_line (Names fault) = name_fault_line fault
-refusal_line (NotYet at) = refused_line (codes "NotYet") (at ∷ [])
 
 abbrev pub image_fault_line : ImageFault → List ℕ
 image_fault_line (BadLine n) = refused_line (codes "BadLine") (n ∷ [])

@@ -1,7 +1,7 @@
 // The commands, their words, and how much they read.
 
 ghost use Rattle.std.specs.Prelude.{◌≡◌, ◌↔◌, IsTrue, MatchOption, string_bytes};
-ghost use Rattle.br_top.specs.Commands.{AreWordsOf, AreWords, limit_of};
+ghost use Rattle.br_top.specs.Commands.{AreWordsOf, AreWords, limit_of, reads_input};
 
 /// What the program can be asked to do.
 #[derive(Clone, Copy, Debug, PartialEq, Eq)]
@@ -16,6 +16,8 @@ pub enum Command {
     Run,
     /// From an interp script and a source text on the input to what the run shows.
     Interp,
+    /// From nothing to the canonical text of the lightbulb's firmware. The input is not read.
+    Firmware,
     /// From a trace text on the input to the verdict on its events.
     Judge,
 }
@@ -30,6 +32,7 @@ pub(crate) fn command_of(words: &[String]) -> Option<Command>
         [word] if is_text(word, "list") => Some(Command::List),
         [word] if is_text(word, "run") => Some(Command::Run),
         [word] if is_text(word, "interp") => Some(Command::Interp),
+        [word] if is_text(word, "firmware") => Some(Command::Firmware),
         [word] if is_text(word, "judge") => Some(Command::Judge),
         _ => None,
     }
@@ -41,18 +44,26 @@ fn is_text(word: &String, text: &str) -> bool
     word.as_str() == text
 }
 
+/// Whether a command reads its input.
+pub(crate) fn reads_input(command: Command) -> bool
+    ensures { result ≡ reads_input command }
+{
+    !matches!(command, Command::Firmware)
+}
+
 /// How many bytes a source text has at most.
 pub(crate) const SOURCE_LIMIT: usize = 1_048_576;
 
 /// How many bytes any other input has at most, a script and a text after it together.
 const OTHER_LIMIT: usize = 16_777_216;
 
-/// How many bytes of input a command reads at most.
+/// How many bytes of input a command reads at most, which is 0 where it does not read it.
 pub(crate) fn limit_of(command: Command) -> usize
     ensures { result ≡ limit_of command }
 {
     match command {
         Command::Compile | Command::Print => SOURCE_LIMIT,
         Command::List | Command::Run | Command::Interp | Command::Judge => OTHER_LIMIT,
+        Command::Firmware => 0,
     }
 }

@@ -1,25 +1,26 @@
 // Making texts: from the bytes of the input to the whole text of the answer.
 
-ghost use Rattle.std.specs.Prelude.{◌≡◌, ◌≤◌, ◌+◌, ℕ, List, length, IfOk, OnOk, IfErr, Err, IsErrOf, IsTrue};
-ghost use Rattle.br_base.specs.Ends.{Rose, ConsumesAtMost};
+ghost use Rattle.std.specs.Prelude.{◌≡◌, ◌≤◌, ◌+◌, ℕ, List, length, IfOk, OnOk, IfErr, Err, IsErrOf, IsTrue, IsFalse};
+ghost use Rattle.br_base.specs.Ends.{Rose, ConsumesAtMost, ConsumesMany};
 ghost use Rattle.br_top.specs.declared.trouble.Reason.{Reason};
-ghost use Rattle.br_top.specs.Commands.{Adds, Refuses, limit_of, reads_input};
+ghost use Rattle.br_top.specs.Commands.{Adds, AddsFirmware, Refuses, limit_of, reads_input};
 ghost use Rattle.br_top.specs.Answers.{ReadsAll, ReadsRefused, IsUnrefused};
 ghost use Rattle.br_top.specs.Troubles.{IsRefusedFor};
 
-use crate::command::{Command, limit_of};
+use crate::command::{Command, limit_of, reads_input};
 use crate::interps::interp_output;
 use crate::runs::run_output;
 use crate::trouble::Trouble;
-use br_base::{Source, read_all};
+use br_base::{NoMemory, ReadEnd, Source, read_all};
 use br_compile::compile;
 use br_image::{one_trace_or_one_fault, read_trace};
+use br_lightbulb::program;
 use br_sexpr::one_answer;
-use br_syntax::from_tree;
+use br_syntax::{from_tree, offsets_left_out, to_tree};
 use br_texts::verdict;
 use std::alloc::Global;
 
-/// The text that a command makes of what is on the input.
+/// The text that a command makes of what is on the input, which is read where the command reads it.
 pub(crate) fn made_text<S: Source>(
     alloc: Global,
     command: Command,
@@ -31,11 +32,34 @@ pub(crate) fn made_text<S: Source>(
     ensures failed { IsErrOf result Trouble.ReadFault → Rose (S.faults input.old) (S.faults input.new)
         × IsTrue (reads_input command) × ConsumesAtMost (S.left input.old) (S.left input.new) (limit_of command) }
     ensures memory { IsErrOf result Trouble.Memory → ConsumesAtMost (S.left input.old) (S.left input.new) (limit_of command + 1) }
+    ensures unread { IsFalse (reads_input command) → input.new ≡ input.old }
     ensures sound { OnOk result (S.faults input.new ≡ S.faults input.old) }
     ensures count { S.faults input.old ≤ S.faults input.new }
 {
-    let bytes = read_all(alloc, input, limit_of(command))?;
+    let bytes = input_bytes(alloc, command, input)?;
     text_of(alloc, command, &bytes)
+}
+
+/// All bytes of a command's input, and none for a command that does not read it.
+fn input_bytes<S: Source>(
+    alloc: Global,
+    command: Command,
+    input: &mut S,
+) -> Result<Vec<u8>, ReadEnd>
+    ensures read { IfOk result (λ bytes. ReadsAll command (S.left input.old) (S.left input.new) bytes.items) }
+    ensures too_long { IsErrOf result ReadEnd.TooLong → IsTrue (reads_input command)
+        × ConsumesMany (S.left input.old) (S.left input.new) (limit_of command + 1) }
+    ensures failed { IsErrOf result ReadEnd.Failed → Rose (S.faults input.old) (S.faults input.new)
+        × IsTrue (reads_input command) × ConsumesAtMost (S.left input.old) (S.left input.new) (limit_of command) }
+    ensures memory { IsErrOf result ReadEnd.Memory → ConsumesAtMost (S.left input.old) (S.left input.new) (limit_of command + 1) }
+    ensures unread { IsFalse (reads_input command) → input.new ≡ input.old }
+    ensures sound { OnOk result (S.faults input.new ≡ S.faults input.old) }
+    ensures count { S.faults input.old ≤ S.faults input.new }
+{
+    if !reads_input(command) {
+        return Ok(Vec::new(alloc));
+    }
+    read_all(alloc, input, limit_of(command))
 }
 
 /// The text that a command makes of an input of these bytes.
@@ -51,6 +75,7 @@ fn text_of(alloc: Global, command: Command, bytes: &[u8]) -> Result<Vec<u8>, Tro
         Command::List => listing_text(alloc, bytes),
         Command::Run => run_output(alloc, bytes),
         Command::Interp => interp_output(alloc, bytes),
+        Command::Firmware => Ok(firmware_text(alloc)?),
         Command::Judge => verdict_text(alloc, bytes),
     }
 }
@@ -88,6 +113,15 @@ fn listing_text(alloc: Global, bytes: &[u8]) -> Result<Vec<u8>, Trouble>
 {
     let image = br_image::read(alloc, bytes)?;
     Ok(br_listing::list(alloc, &image)?)
+}
+
+/// The canonical text of the firmware.
+fn firmware_text(alloc: Global) -> Result<Vec<u8>, NoMemory>
+    ensures { IfOk result (λ text. AddsFirmware text.items) }
+{
+    offsets_left_out();
+    let functions = to_tree(alloc, &program(alloc)?)?;
+    br_sexpr::print(alloc, functions.as_slice())
 }
 
 /// The verdict on the events that a trace text tells.

@@ -37,7 +37,6 @@ fn refusal_line(alloc: Global, refusal: &Refusal) -> Result<Vec<u8>, NoMemory>
         Refusal::Text(fault) => text_fault_line(alloc, *fault),
         Refusal::Shape(fault) => shape_fault_line(alloc, *fault),
         Refusal::Names(fault) => name_fault_line(alloc, *fault),
-        Refusal::NotYet(at) => refused_line(alloc, "NotYet", &[*at]),
     }
 }
 

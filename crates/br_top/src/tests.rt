@@ -59,7 +59,7 @@ fn answer(
 
 #[test]
 fn refusals(rt: HostRuntime) -> Result<(), Fail> {
-    let cases: [(&str, &[u8], &[u8]); 15] = [
+    let cases: [(&str, &[u8], &[u8]); 13] = [
         ("compile", b"(fn main () ()", b"brc: refused Unclosed 0\n"),
         (
             "compile",
@@ -73,11 +73,6 @@ fn refusals(rt: HostRuntime) -> Result<(), Fail> {
             b"(fn main (a b c d e f g h i) ())",
             b"brc: refused TooMany 26\n",
         ),
-        (
-            "compile",
-            b"(fn main () () (skip))",
-            b"brc: refused NotYet 15\n",
-        ),
         ("compile", b"()", b"brc: refused BadForm 0\n"),
         (
             "compile",
@@ -88,11 +83,6 @@ fn refusals(rt: HostRuntime) -> Result<(), Fail> {
             "compile",
             b"(fn f (a) ())(fn main () () (call () f))",
             b"brc: refused WrongArguments 37\n",
-        ),
-        (
-            "compile",
-            b"(fn a () () (call () c)) (fn b () () (call () c)) (fn c () ())",
-            b"brc: refused NotYet 12\n",
         ),
         ("print", b"(fn main () ()", b"brc: refused Unclosed 0\n"),
         (

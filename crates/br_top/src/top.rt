@@ -1,11 +1,11 @@
 // The top call.
 
-ghost use Rattle.std.specs.Prelude.{◌≡◌, ◌≤◌, ℕ, List, Some, ◌⊎◌};
+ghost use Rattle.std.specs.Prelude.{◌≡◌, ◌≤◌, ℕ, List, Some, ◌⊎◌, IsFalse};
 ghost use Rattle.std.specs.Io.KnownBytes.{Appends};
 ghost use Rattle.br_base.specs.Ends.{Rose, AppendsSome};
 ghost use Rattle.br_top.specs.declared.command.Command.{Command};
 ghost use Rattle.br_top.specs.declared.trouble.Reason.{Reason};
-ghost use Rattle.br_top.specs.Commands.{AreWords, AreWordsOf, Refuses};
+ghost use Rattle.br_top.specs.Commands.{AreWords, AreWordsOf, Refuses, reads_input};
 ghost use Rattle.br_top.specs.Lines.{usage_line, read_fault_line, write_fault_line, no_memory_line};
 ghost use Rattle.br_top.specs.Refusals.{reason_line};
 ghost use Rattle.br_top.specs.Answers.{IsDueText, IsDueLine, IsUnrefused, FailsWithin, StopsWithin};
@@ -24,7 +24,8 @@ use std::alloc::Global;
 ///
 /// First the words are judged, which takes no memory; then the input is read to its end, or to the
 /// byte after the command's limit; then it is refused, or the whole text of the answer is made; and
-/// then the text is written. Want of memory may come at any moment after the words.
+/// then the text is written. A command that does not read its input leaves it as it is. Want of
+/// memory may come at any moment after the words.
 pub fn tool<S: Source, O: Sink, E: Sink>(
     alloc: Global,
     words: &[String],
@@ -46,12 +47,14 @@ pub fn tool<S: Source, O: Sink, E: Sink>(
         × Appends (E.held err.old) (E.held err.new) line
         × (out.new ≡ out.old) }
 
-    // The words are no command's, and then nothing is read.
+    // The words are no command's, and then nothing is read; nor is it for a command that does not
+    // read its input.
     ensures usage { result ≡ Status.Usage →
         ¬ AreWords words.now
         × Appends (E.held err.old) (E.held err.new) usage_line
         × (out.new ≡ out.old) }
     ensures unread { ¬ AreWords words.now → input.new ≡ input.old }
+    ensures left_alone { (command : Command) → AreWordsOf words.now command → IsFalse (reads_input command) → input.new ≡ input.old }
 
     // The input failed, and nothing was read after that.
     ensures read_fault { result ≡ Status.ReadFault →
@@ -93,6 +96,11 @@ pub fn tool<S: Source, O: Sink, E: Sink>(
         AreWordsOf words.now command → S.left input.old ≡ Some bytes → IsUnrefused command bytes →
         (result ≡ Status.Done) ⊎ (result ≡ Status.NoMemory)
         ⊎ ((result ≡ Status.ReadFault) × Rose (S.faults input.old) (S.faults input.new))
+        ⊎ ((result ≡ Status.WriteFault) × Rose (O.faults out.old) (O.faults out.new)) }
+
+    // What needs no input is done whatever the input is.
+    ensures needs_no_input { (command : Command) → AreWordsOf words.now command → IsFalse (reads_input command) →
+        (result ≡ Status.Done) ⊎ (result ≡ Status.NoMemory)
         ⊎ ((result ≡ Status.WriteFault) × Rose (O.faults out.old) (O.faults out.new)) }
 
     // No count of faults falls.

@@ -7,7 +7,7 @@ use std::alloc::{AllocError, Global};
 use std::test::Fail;
 
 /// These parts, one after the other.
-fn joined(alloc: Global, parts: &[&[u8]]) -> Result<Vec<u8>, AllocError> {
+pub(crate) fn joined(alloc: Global, parts: &[&[u8]]) -> Result<Vec<u8>, AllocError> {
     let mut whole = Vec::new(alloc);
     for part in parts {
         whole.extend_from_slice(part)?;
@@ -16,7 +16,7 @@ fn joined(alloc: Global, parts: &[&[u8]]) -> Result<Vec<u8>, AllocError> {
 }
 
 /// The lines of a run script after `call main` in most cases.
-const PLAIN_RUN: &[u8] = b"args\njunk 00000000\nlimit 100000\nend\n";
+pub(crate) const PLAIN_RUN: &[u8] = b"args\njunk 00000000\nlimit 100000\nend\n";
 
 /// The lines of an interp script after `call main` in most cases.
 const PLAIN_INTERP: &[u8] = b"args\nlimit 100000\nend\n";
@@ -352,20 +352,6 @@ fn refused_scripts(rt: HostRuntime) -> Result<(), Fail> {
         assert_eq!(rt; out.held(), b"".as_slice());
         assert_eq!(rt; err.held(), line);
     }
-    Ok(())
-}
-
-#[test]
-fn run_of_what_was_compiled(rt: HostRuntime) -> Result<(), Fail> {
-    let (status, image, _) = answer(rt.alloc(), "compile", WRITES_A_WORD, NEVER)?;
-    assert_eq!(rt; status, Status::Done);
-    let bytes = joined(
-        rt.alloc(),
-        &[b"brrun 1\ncall main\n", PLAIN_RUN, image.held()],
-    )?;
-    let (status, out, _) = answer(rt.alloc(), "run", &bytes, NEVER)?;
-    assert_eq!(rt; status, Status::Done);
-    assert_eq!(rt; out.held(), b"write 1001200c 0000000c\nhalted\n".as_slice());
     Ok(())
 }
 

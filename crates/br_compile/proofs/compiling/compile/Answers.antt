@@ -1,35 +1,53 @@
-use Rattle.std.proofs.Common.{◌≡◌, ◌≤◌, None, length, sym, ap, subst, ◌∙◌, arith}
-use Rattle.br_syntax.specs.Denotes.{Denotes}
-use Rattle.br_measure.specs.Faults.{IsSound}
+use Rattle.std.proofs.Common.{◌≡◌, ◌≤◌, sym, subst, ◌∙◌}
+use Rattle.std.specs.Prelude.{All}
+use Rattle.br_flatimp.specs.Sizes.{needs}
 use Rattle.br_compile.specs.FirstSteps.{ImplementsAtFirst}
-use Rattle.br_compile.specs.Implements.{Implements}
-use Rattle.br_compile.specs.Refusal.{most_bytes, Accepts}
-use Rattle.br_compile.specs.Unbuilt.{program_unbuilt}
+use Rattle.br_compile.proofs.Composed.{implements_refined}
 use Rattle.br_compile.proofs.Fronts.{implements_at_first}
-use Rattle.br_compile.proofs.Unrefused.{Laws, one_accepted, built_has_no_refusal}
+use Rattle.br_compile.proofs.Passes.{needs_are_shallow, as_many, fits_region, are_needs}
 use Rattle.br_compile.proofs.compiling.compile.Goals as goal
 
+pub emit-requires : goal.emit-requires
+emit-requires c =
+    let lowered = c.in_ok-lowered.ensures.lowered in
+    let fs = lowered.0 in
+    let sound = lowered.1.1 in
+    let is = lowered.2.in_registers in
+    let qs = c.in_ok-lowered.lowered.flat.funcs in
+    let same = c.as_slice.ensures.value ∙ lowered.2.needs in
+    record {
+      register_form = is.register_form;
+      needs = are_needs c.needs_add_up.ensures qs c.as_slice.result.now is.no_recursion same;
+      stack = subst (All (λ n. n ≤ 1048576)) (sym same) (needs_are_shallow fs qs sound (as_many fs qs is.refines) is);
+      size = fits_region fs qs sound is;
+    }
+
+pub returns-clause-implements : goal.returns-clause-implements
+returns-clause-implements c =
+    let lowered = c.in_ok-lowered.ensures.lowered in
+    let fs = lowered.0 in
+    let is = lowered.2.in_registers in
+    let qs = c.in_ok-lowered.lowered.flat.funcs in
+    let same = c.as_slice.ensures.value ∙ lowered.2.needs in
+    let made = c.in_ok-image in (
+      fs,
+      lowered.1,
+      implements_refined qs fs is.refines is.short made.image c.as_slice.result.now same
+          made.ensures.layout made.ensures.words made.ensures.entries made.ensures.shows is.within,
+    )
+
 pub returns-clause-first_steps : goal.returns-clause-first_steps
-returns-clause-first_steps c = λ fs accepts.
-    let laws : Laws = record { one_reading = c.one_answer.ensures.one_reading; not_both = c.one_answer.ensures.not_both; sound = c.sound_programs_have_no_fault.ensures } in
-    let trees = c.in_ok-trees.trees in
-    let gs = c.in_ok-program.program.funcs in
-    let small : length c.args.text.now ≤ most_bytes = omega arith in
-    let denotes : Denotes trees gs = subst (λ ts. Denotes ts gs) c.as_slice.ensures c.in_ok-program.ensures.denotes in
-    let sound : IsSound gs = subst IsSound c.in_ok-checked.ensures.kept c.in_ok-checked.ensures.sound in
-    let accepted : Accepts c.args.text.now gs = ((small, trees, c.in_ok-trees.ensures.trees, denotes), sound) in
-    let same : gs ≡ fs = one_accepted laws c.args.text.now gs fs accepted accepts in
-    let image = c.in_ok-built_image-in-None.field-0 in
-    let is : c.program.result.now.funcs ≡ gs = c.program.ensures.functions ∙ c.in_ok-checked.ensures.kept in
-    subst (ImplementsAtFirst image) same (implements_at_first image gs (subst (Implements image) is c.in_ok-built_image-in-None.ensures.implements))
+returns-clause-first_steps c = λ gs accepts.
+    let lowered = c.in_ok-lowered.ensures.lowered in
+    let fs = lowered.0 in
+    let is = lowered.2.in_registers in
+    let qs = c.in_ok-lowered.lowered.flat.funcs in
+    let stack = c.as_slice.ensures.value ∙ lowered.2.needs in
+    let made = c.in_ok-image in
+    let same = c.texts_are_accepted_or_at_fault.ensures.one_program c.args.text.now fs gs lowered.1 accepts in
+    subst (ImplementsAtFirst made.image) same (implements_at_first made.image fs
+    (implements_refined qs fs is.refines is.short made.image c.as_slice.result.now stack
+    made.ensures.layout made.ensures.words made.ensures.entries made.ensures.shows is.within))
 
 pub returns-clause-unrefused : goal.returns-clause-unrefused
-returns-clause-unrefused c =
-    let laws : Laws = record { one_reading = c.one_answer.ensures.one_reading; not_both = c.one_answer.ensures.not_both; sound = c.sound_programs_have_no_fault.ensures } in
-    let trees = c.in_ok-trees.trees in
-    let fs = c.in_ok-program.program.funcs in
-    let small : length c.args.text.now ≤ most_bytes = omega arith in
-    let denotes : Denotes trees fs = subst (λ ts. Denotes ts fs) c.as_slice.ensures c.in_ok-program.ensures.denotes in
-    let sound : IsSound fs = subst IsSound c.in_ok-checked.ensures.kept c.in_ok-checked.ensures.sound in
-    let built : program_unbuilt trees ≡ None = sym (c.in-None.ensures ∙ ap program_unbuilt c.as_slice-2.ensures) in
-    built_has_no_refusal laws c.args.text.now trees fs small c.in_ok-trees.ensures.trees denotes sound built
+returns-clause-unrefused c = c.in_ok-lowered.ensures.unrefused

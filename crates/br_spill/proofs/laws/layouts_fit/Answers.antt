@@ -1,5 +1,5 @@
-use Rattle.br_spill.proofs.Layouts.{layout-fits, few-slots, program-spilled}
+use Rattle.br_spill.proofs.Layouts.{layout-fits, few-slots, well-formed-spilled}
 use Rattle.br_spill.proofs.laws.layouts_fit.Goals as goal
 
 pub returns : goal.returns
-returns c = record { fits = layout-fits; few = few-slots; program = program-spilled }
+returns c = record { fits = layout-fits; few = few-slots; program = well-formed-spilled }

@@ -4,7 +4,7 @@ use Rattle.br_sexpr.specs.declared.tree.TextFault.{TextFault}
 use Rattle.br_sexpr.specs.Reads.{Reads, HasFault}
 use Rattle.br_syntax.specs.declared.program.Func.{Func}
 use Rattle.br_syntax.specs.Denotes.{Denotes}
-use Rattle.br_compile.specs.declared.refusal.Refusal.TheVariants.{InputTooLong, Text, Shape, Names, NotYet}
+use Rattle.br_compile.specs.declared.refusal.Refusal.TheVariants.{InputTooLong, Text, Shape, Names}
 use Rattle.br_top.specs.declared.command.Command.TheVariants.{Print}
 use Rattle.br_top.specs.declared.trouble.Reason.TheVariants.{TooLong, Source, Image, Script, TextTooLong, UnknownEntry, WrongCount, Trace}
 use Rattle.br_top.specs.Answers.{IsUnrefused}
@@ -31,7 +31,6 @@ unrefused not_both one bytes trees program short read denoted (Source (Shape fau
     let wrong = refused.0.3 in
     cc
 unrefused not_both one bytes trees program short read denoted (Source (Names fault)) refused = absurd refused.1
-unrefused not_both one bytes trees program short read denoted (Source (NotYet at)) refused = absurd refused.1
 unrefused not_both one bytes trees program short read denoted (Image fault) refused = refused
 unrefused not_both one bytes trees program short read denoted (Script fault) refused = refused
 unrefused not_both one bytes trees program short read denoted TextTooLong refused = refused

@@ -1,0 +1,28 @@
+-- What the passes between a source text and its image make of a program.
+use Rattle.std.specs.Prelude.{◌≡◌, ℕ, ◌*◌, ◌≤◌, List, Some, slice_get}
+use Rattle.br_syntax.specs.declared.program.Func.{Func}
+use Rattle.br_measure.specs.Bulk.{bulk}
+use Rattle.br_measure.specs.Measure.{measure}
+use Rattle.br_flatimp.specs.declared.program.FlatFunc.{FlatFunc}
+use Rattle.br_flatimp.specs.Refines.{Refines, meaning}
+use Rattle.br_flatimp.specs.Sizes as sizes
+use Rattle.br_flatimp.specs.WellFormed.{IsRegisterForm}
+use Rattle.br_flatten.specs.Meaning.{source_meaning}
+use Rattle.br_compile.specs.Implements.{rate}
+
+-- Flat functions stand for a program: they are in register form and refine it, no path of calls leads from
+-- one to itself, each needs at most the measure of its source, and their flat bulk is at most 24 words for
+-- each unit of the program's bulk.
+pub record IsInRegisters (flat : List FlatFunc) (fs : List Func) : Type 0 where
+  pub register_form : IsRegisterForm flat
+  pub refines : Refines (meaning flat) (source_meaning fs)
+  pub no_recursion : sizes.HasNoRecursion flat
+  pub within : (n : ℕ) (q : FlatFunc) (f : Func) → slice_get flat n ≡ Some q → slice_get fs n ≡ Some f
+      → sizes.need flat q ≤ measure fs f
+  pub short : sizes.flat_bulk flat ≤ rate * bulk fs
+
+-- They do, and with them stand the bytes of stack that each needs and the bulk of the program.
+pub record IsLowered (flat : List FlatFunc) (stack : List ℕ) (counted : ℕ) (fs : List Func) : Type 0 where
+  pub in_registers : IsInRegisters flat fs
+  pub needs : stack ≡ sizes.needs flat
+  pub size : counted ≡ bulk fs

@@ -1,0 +1,122 @@
+// From a source text to a flat program in register form.
+
+ghost use Rattle.std.specs.Prelude.{◌≡◌, ◌≤◌, List, length, IfOk, IfErr};
+ghost use Rattle.br_base.specs.Faults.{IfFault};
+ghost use Rattle.br_sexpr.specs.Reads.{Reads};
+ghost use Rattle.br_syntax.specs.Denotes.{Denotes};
+ghost use Rattle.br_syntax.specs.declared.program.Func.{Func};
+ghost use Rattle.br_measure.specs.Faults.{IsSound};
+ghost use Rattle.br_compile.specs.declared.refusal.Refusal.{Refusal};
+ghost use Rattle.br_compile.specs.Refusal.{most_bytes, Accepts, IsFaultOf, IsShapeRefusal, IsNameRefusal};
+ghost use Rattle.br_compile.specs.Lowered.{IsInRegisters, IsLowered};
+
+use crate::refusal::Refusal;
+use br_base::{NoMemory, OrMemory};
+use br_flatimp::{FlatProgram, refines_composes};
+use br_flatten::flatten;
+use br_measure::{Checked, check, measures_add_up, sound_programs_have_no_fault};
+use br_sexpr::{Tree, one_answer, read};
+use br_spill::{layouts_fit, spill, spilled_functions_keep_sizes};
+use br_stack_need::{needs, needs_are_bounded};
+use br_syntax::{Program, from_tree};
+use sqlite_items::Items;
+use std::alloc::Global;
+
+/// The most bytes of a source text.
+pub const MOST_BYTES: usize = 1_048_576;
+
+/// A flat program in register form, made of a source text.
+#[derive(Debug, Drop)]
+pub struct Lowered {
+    /// The functions, in the order of the text.
+    pub flat: FlatProgram,
+    /// The bytes of stack that each function needs.
+    pub needs: Vec<u32>,
+    /// The bulk of the source program.
+    pub bulk: u32,
+}
+
+/// The flat program in register form of the program that a source text stands for. It refines that
+/// program and has its functions in order, each needs at most the measure of its source, and its flat
+/// bulk is at most 24 words for each unit of the program's bulk.
+///
+/// An `Err` that is no want of memory is the first thing that refuses the text.
+pub fn lower(alloc: Global, text: &[u8]) -> Result<Lowered, OrMemory<Refusal>>
+    ensures lowered { IfOk result (λ l. (fs : List Func) × Accepts text.now fs × IsLowered l.flat.funcs l.needs.items l.bulk fs) }
+    ensures unrefused { IfOk result (λ _. (r : Refusal) → IsFaultOf text.now r → ⊥) }
+    ensures refused { IfErr result (λ e. IfFault e (λ r. IsFaultOf text.now r)) }
+{
+    one_answer();
+    sound_programs_have_no_fault();
+    if text.len() > MOST_BYTES {
+        return Err(OrMemory::Fault(Refusal::InputTooLong));
+    }
+    let trees = trees_of(alloc, text)?;
+    let program = program_of(alloc, trees.as_slice())?;
+    let checked = checked_of(alloc, program)?;
+    let made = lowered_program(alloc, &checked)?;
+    Ok(made)
+}
+
+// The passes from a checked program to register form.
+fn lowered_program(alloc: Global, program: &Checked) -> Result<Lowered, NoMemory>
+    ensures lowered { IfOk result (λ l. IsLowered l.flat.funcs l.needs.items l.bulk program.now) }
+{
+    let _source = program.program();
+    let flat = in_registers(alloc, program)?;
+    let needs = needs(alloc, &flat)?;
+    Ok(Lowered {
+        flat,
+        needs,
+        bulk: program.bulk(),
+    })
+}
+
+fn in_registers(alloc: Global, program: &Checked) -> Result<FlatProgram, NoMemory>
+    ensures lowered { IfOk result (λ q. IsInRegisters q.funcs program.now) }
+{
+    measures_add_up();
+    needs_are_bounded();
+    layouts_fit();
+    spilled_functions_keep_sizes();
+    refines_composes();
+    let _source = program.program();
+    let flat = flatten(alloc, program)?;
+    let spilled = spill(alloc, flat)?;
+    Ok(spilled)
+}
+
+fn trees_of(alloc: Global, text: &[u8]) -> Result<Items<Tree>, OrMemory<Refusal>>
+    requires { length text.now ≤ most_bytes }
+    ensures trees { IfOk result (λ trees. Reads text.now trees) }
+    ensures refused { IfErr result (λ e. IfFault e (λ r. IsFaultOf text.now r)) }
+{
+    match read(alloc, text) {
+        Ok(trees) => Ok(trees),
+        Err(OrMemory::Memory) => Err(OrMemory::Memory),
+        Err(OrMemory::Fault(fault)) => Err(OrMemory::Fault(Refusal::Text(fault))),
+    }
+}
+
+fn program_of(alloc: Global, trees: &[Tree]) -> Result<Program, OrMemory<Refusal>>
+    ensures denotes { IfOk result (λ p. Denotes trees.now p.funcs) }
+    ensures refused { IfErr result (λ e. IfFault e (λ r. IsShapeRefusal trees.now r)) }
+{
+    match from_tree(alloc, trees) {
+        Ok(program) => Ok(program),
+        Err(OrMemory::Memory) => Err(OrMemory::Memory),
+        Err(OrMemory::Fault(fault)) => Err(OrMemory::Fault(Refusal::Shape(fault))),
+    }
+}
+
+fn checked_of(alloc: Global, program: Program) -> Result<Checked, OrMemory<Refusal>>
+    ensures kept { IfOk result (λ c. c ≡ program.funcs) }
+    ensures sound { IfOk result (λ c. IsSound c) }
+    ensures refused { IfErr result (λ e. IfFault e (λ r. IsNameRefusal program.funcs r)) }
+{
+    match check(alloc, program) {
+        Ok(checked) => Ok(checked),
+        Err(OrMemory::Memory) => Err(OrMemory::Memory),
+        Err(OrMemory::Fault(fault)) => Err(OrMemory::Fault(Refusal::Names(fault))),
+    }
+}

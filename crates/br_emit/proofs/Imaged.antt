@@ -1,0 +1,404 @@
+-- The image of a program: its code, its entries and its limits.
+use Rattle.std.proofs.Common.{◌≡◌, ◌≢◌, ℕ, zero, suc, ◌+◌, ◌-◌, ◌*◌, ◌%◌, ◌^◌, ◌<◌, ◌≤◌, ◌&&◌, not, ◌||◌, min, max, nat_le, if◌then◌else◌, Bool, true, false, IsTrue, List, [], ◌∷◌, ◌++◌, map, get_or, drop, length, sum, Option, Some, None, refl, sym, ap, subst, ◌∙◌, arith, append_assoc}
+use Rattle.std.specs.Prelude.{All, AllPairs, slice_get, bytes_eq}
+use Rattle.std.specs.List.{AllByRecursion, list_all, list_any}
+use Rattle.std.proofs.lemmas.Bool.Decides.{nat_tests}
+use Rattle.std.proofs.lemmas.List.Elements.{All-nil, All-cons}
+use Rattle.std.proofs.lemmas.List.{length-map}
+use Rattle.std.proofs.lemmas.List.Kept.{AllPairs-cons}
+use Rattle.std.proofs.lemmas.Slice.Eq.{bytes_eq-Decides}
+use Rattle.br_base.specs.Name.{IsName}
+use Rattle.br_words.specs.declared.layout.Layout.TheVariants.{Two}
+use Rattle.br_flatimp.specs.declared.program.FlatFunc.{FlatFunc}
+use Rattle.br_flatimp.specs.Parts.{throughout, callees}
+use Rattle.br_flatimp.specs.Runs.{forgets_none, call}
+use Rattle.br_flatimp.specs.Sizes.{nest, largest, own_need, statement_bulk, function_bulk, flat_bulk}
+use Rattle.br_flatimp.specs.WellFormed.{IsRegisterForm, names_differ, is_well_formed_function, is_well_formed_head, is_well_formed_statement, is_register_function, is_passing, is_list_of_names, are_below, all_differ, fits, uses_registers}
+use Rattle.br_image.specs.declared.images.Entry.{Entry}
+use Rattle.br_image.specs.Limits.{InLimits, EntryInLimits, HaveDifferentNames}
+use Rattle.br_emit.specs.Code.{AllFit, item_word, Targets, callable_items, program_items, places, entry_place, is_called, saved_bytes, function_items}
+use Rattle.br_emit.specs.Sizes.{callable_words, direct_words, function_words, begins, entries, program_words, sized_all}
+use Rattle.br_emit.specs.Ready.{InReach, aimed, is_encodable}
+use Rattle.br_emit.specs.Written.{rest_items, flagged, AreCalled, Writable, CanWrite, address_of, offset_of, addresses, entry_offsets}
+use Rattle.br_emit.specs.Laid.{IsCodeOf, EntryShown, ShowsFunction, callee_need}
+use Rattle.br_emit.specs.Emitted.{AreNeeds, Describes, AllDescribed, ShowsProgram, HasFewNames, entry_of, entries_of}
+use Rattle.br_emit.proofs.Leaves.{both}
+use Rattle.br_emit.proofs.Totals.{sum_cons, all_within, callable_length, function_length, program_length, program_most, begins_are}
+use Rattle.br_emit.proofs.Needing.{own_need_is_enough}
+use Rattle.br_emit.proofs.Encodable.{body_encodable}
+use Rattle.br_emit.proofs.Unrolling.{drop_next}
+use Rattle.br_emit.proofs.Flags.{agree, same_begins, same_entries, same_words, rest_is}
+
+-- ---- lists
+
+pub get_some : {X : Type 0} (h : X → ℕ) (xs : List X) (n : ℕ) (x : X) → slice_get xs n ≡ Some x → get_or (map h xs) n 0 ≡ h x
+get_some h [] n x is = absurd (cc)
+get_some h (y ∷ xs) zero x is = let same : y ≡ x = cc in ap h same
+get_some h (y ∷ xs) (suc n) x is = get_some h xs n x is
+
+all_by : {X : Type 0} (P : X → Type 0) (xs : List X) → ((n : ℕ) (x : X) → slice_get xs n ≡ Some x → P x) → AllByRecursion P xs
+all_by P [] h = tt
+all_by P (x ∷ xs) h = (h 0 x refl, all_by P xs (λ n y is. h (suc n) y is))
+
+one_of : {X : Type 0} (p : X → Bool) (xs : List X) (n : ℕ) (x : X) → IsTrue (list_all p xs) → slice_get xs n ≡ Some x → IsTrue (p x)
+one_of p [] n x h is = absurd (cc)
+one_of p (y ∷ ys) zero x h is = let same : y ≡ x = cc in subst (λ q. IsTrue (p q)) same (both (p y) (list_all p ys) h).0
+one_of p (y ∷ ys) (suc n) x h is = one_of p ys n x (both (p y) (list_all p ys) h).1 is
+
+within_sum : {X : Type 0} (size : X → ℕ) (xs : List X) (n : ℕ) (x : X) → slice_get xs n ≡ Some x → size x ≤ sum (map size xs)
+within_sum size [] n x is = absurd (cc)
+within_sum size (y ∷ ys) zero x is =
+    let same : y ≡ x = cc in
+    let equal : size y ≡ size x = ap size same in
+    let added = sum_cons (size y) (map size ys) in
+    omega (arith, equal, added)
+within_sum size (y ∷ ys) (suc n) x is =
+    let added = sum_cons (size y) (map size ys) in
+    let rest = within_sum size ys n x is in
+    omega (arith, added, rest)
+
+get_inside : {X : Type 0} (xs : List X) (n : ℕ) (x : X) → slice_get xs n ≡ Some x → n < length xs
+get_inside [] n x is = absurd (cc)
+get_inside (y ∷ ys) zero x is = omega arith
+get_inside (y ∷ ys) (suc n) x is = let rest = get_inside ys n x is in omega (arith, rest)
+
+-- ---- needs
+
+pub need_few : (fs : List FlatFunc) (ns : List ℕ) → AreNeeds fs ns → All (λ n. n ≤ 1048576) ns → (n : ℕ) (f : FlatFunc) → slice_get fs n ≡ Some f → get_or ns n 0 ≤ 1048576
+need_few fs ns are few n f there =
+    let inside = get_inside fs n f there in
+    let long = are.count in
+    few n 0 (omega (arith, inside, long))
+
+needed : (fs : List FlatFunc) (ns : List ℕ) → AreNeeds fs ns → All (λ n. n ≤ 1048576) ns → (n : ℕ) (f : FlatFunc) → slice_get fs n ≡ Some f
+    → own_need f + largest (map (λ g. get_or ns g 0) (callees f)) ≤ get_or ns n 0
+needed fs ns are few n f there =
+    let adds = are.each n f there in
+    let less = need_few fs ns are few n f there in
+    omega (arith, adds, less)
+
+-- ---- what is asked before code is written
+
+record Formed (fs : List FlatFunc) (f : FlatFunc) : Type 0 where
+  few_args : length f.args ≤ 8
+  few_results : length f.results ≤ 8
+  encodable : IsTrue (list_all (throughout is_encodable) f.body)
+
+few_names : (names : ℕ) (xs : List ℕ) → IsTrue (is_list_of_names names xs) → length xs ≤ 8
+few_names names xs h = let k = (both (nat_le (length xs) 8) (are_below names xs) (both (nat_le (length xs) 8 && are_below names xs) (all_differ xs) h).0).0 in grind (arith, nat_tests)
+
+formed : (fs : List FlatFunc) → IsRegisterForm fs → (n : ℕ) (f : FlatFunc) → slice_get fs n ≡ Some f → Formed fs f
+formed fs form n f there =
+    let each = (both (names_differ fs) (list_all (is_well_formed_function fs) fs) form.0).1 in
+    let well = both (is_well_formed_head f) (list_all (is_well_formed_statement fs f.names) f.body) (one_of (is_well_formed_function fs) fs n f each there) in
+    let head = both (nat_le f.names 1048576 && is_list_of_names f.names f.args) (is_list_of_names f.names f.results) well.0 in
+    let head2 = both (nat_le f.names 1048576) (is_list_of_names f.names f.args) head.0 in
+    let register = both (is_passing f.args && is_passing f.results) (list_all (throughout uses_registers) f.body) (one_of is_register_function fs n f form.1 there) in
+    record {
+      few_args = few_names f.names f.args head2.1;
+      few_results = few_names f.names f.results head.1;
+      encodable = body_encodable fs f.names f.body well.1 register.1;
+    }
+
+pub can_write : (fs : List FlatFunc) (ns : List ℕ) → IsRegisterForm fs → AreNeeds fs ns → All (λ n. n ≤ 1048576) ns → flat_bulk fs ≤ 1048576 → CanWrite 1048576 fs
+can_write fs ns form is few fit = record {
+  each = all_by (Writable 1048576) fs
+      (λ n f there.
+      let within = all_within f.body (nest f) in
+      let parts = within.parts in
+      let bulk = within_sum function_bulk fs n f there in
+      let own = needed fs ns is few n f there in
+      let less = need_few fs ns is few n f there in
+      record {
+        nested = omega (arith, own, less);
+        form = (formed fs form n f there).encodable;
+        parts = omega (arith, parts, bulk, fit);
+      });
+  few = fit;
+}
+
+pub have_few_names : (fs : List FlatFunc) → IsRegisterForm fs → AllByRecursion HasFewNames fs
+have_few_names fs form = all_by HasFewNames fs (λ n f there. let is = formed fs form n f there in record { args = is.few_args; results = is.few_results })
+
+-- ---- addresses
+
+below : (called : ℕ → Bool) (place n : ℕ) (rest : List FlatFunc) (g : ℕ) → get_or (map address_of (begins called place n rest)) g 0 ≤ address_of (place + program_words called n rest)
+below called place n [] g = omega arith
+below called place n (f ∷ rest) zero = omega arith
+below called place n (f ∷ rest) (suc g) = let later = below called (place + function_words (called n) f) (n + 1) rest g in omega (arith, later)
+
+pub in_reach : (fs : List FlatFunc) → flat_bulk fs ≤ 1048576 → (g : ℕ) → InReach (aimed (addresses fs) g)
+in_reach fs fit g =
+    let most = program_most (is_called fs) 0 fs in
+    let less : aimed (addresses fs) g ≤ 0x80300000 + 4 * (0 + program_words (is_called fs) 0 fs) = below (is_called fs) 0 0 fs g in
+    omega (arith, most, less, fit)
+
+aimed_at : (fs : List FlatFunc) (n place : ℕ) → slice_get (places (aimed (addresses fs)) forgets_none fs 0 0 fs) n ≡ Some place → aimed (addresses fs) n ≡ 0x80300000 + 4 * place
+aimed_at fs n place at = get_some address_of (begins (is_called fs) 0 0 fs) n place (ap (λ q. slice_get q n) (begins_are (aimed (addresses fs)) fs 0 0 fs) ∙ at)
+
+-- ---- what is written, by the flags of called functions
+
+pub words_few : (fs : List FlatFunc) (flags : List Bool) → AreCalled flags fs → flat_bulk fs ≤ 1048576 → program_words (flagged flags) 0 fs ≤ 1048576
+words_few fs flags are fit =
+    let same = same_words (flagged flags) (is_called fs) 0 fs (agree fs flags are) in
+    let most = program_most (is_called fs) 0 fs in
+    omega (arith, same, most, fit)
+
+pub record Plan (fs : List FlatFunc) (flags : List Bool) (targets : List ℕ) : Type 0 where
+  pub reach : (g : ℕ) → InReach (aimed targets g)
+  pub words : length (rest_items (aimed targets) (flagged flags) 0 fs) ≡ program_words (flagged flags) 0 fs
+  pub items : rest_items (aimed targets) (flagged flags) 0 fs ≡ program_items (aimed (addresses fs)) forgets_none fs 0 fs
+
+pub plan : (fs : List FlatFunc) (flags : List Bool) (targets : List ℕ) → AreCalled flags fs → flat_bulk fs ≤ 1048576 → targets ≡ map address_of (begins (flagged flags) 0 0 fs) → Plan fs flags targets
+plan fs flags targets are fit is =
+    let agrees = agree fs flags are in
+    let targets_are : targets ≡ addresses fs = is ∙ ap (map address_of) (same_begins (flagged flags) (is_called fs) 0 0 fs agrees) in
+    let items = rest_is (aimed targets) (flagged flags) fs 0 fs agrees in
+    record {
+      reach = λ g. subst (λ q. InReach (aimed q g)) (sym targets_are) (in_reach fs fit g);
+      words = ap length items ∙ program_length (aimed targets) fs 0 fs ∙ sym (same_words (flagged flags) (is_called fs) 0 fs agrees);
+      items = items ∙ ap (λ q. program_items (aimed q) forgets_none fs 0 fs) targets_are;
+    }
+
+pub offsets_are : (fs : List FlatFunc) (flags : List Bool) → AreCalled flags fs → map offset_of (entries (flagged flags) 0 0 fs) ≡ entry_offsets fs
+offsets_are fs flags are = ap (map offset_of) (same_entries (flagged flags) (is_called fs) 0 0 fs (agree fs flags are))
+
+entries_long : (called : ℕ → Bool) (place n : ℕ) (rest : List FlatFunc) → length (entries called place n rest) ≡ length rest
+entries_long called place n [] = refl
+entries_long called place n (f ∷ rest) = let rest_long = entries_long called (place + function_words (called n) f) (n + 1) rest in omega (arith, rest_long)
+
+pub offsets_long : (fs : List FlatFunc) → length (entry_offsets fs) ≡ length fs
+offsets_long fs = length-map (entries (is_called fs) 0 0 fs) offset_of ∙ entries_long (is_called fs) 0 0 fs
+
+-- ---- code
+
+pub code_most : (fs : List FlatFunc) (code : List ℕ) → code ≡ map item_word (program_items (aimed (addresses fs)) forgets_none fs 0 fs) → length code ≤ flat_bulk fs
+code_most fs code items =
+    let all = program_items (aimed (addresses fs)) forgets_none fs 0 fs in
+    let size : length code ≡ length all = ap length items ∙ length-map all item_word in
+    let words = program_length (aimed (addresses fs)) fs 0 fs in
+    let most = program_most (is_called fs) 0 fs in
+    omega (arith, size, words, most)
+
+pub code_is : (fs : List FlatFunc) (ns code : List ℕ) → IsRegisterForm fs → AreNeeds fs ns → All (λ n. n ≤ 1048576) ns → flat_bulk fs ≤ 1048576
+    → code ≡ map item_word (program_items (aimed (addresses fs)) forgets_none fs 0 fs) → AllFit (program_items (aimed (addresses fs)) forgets_none fs 0 fs) → IsCodeOf fs (aimed (addresses fs)) (λ g. get_or ns g 0) code
+code_is fs ns code form is few fit items all_fit = record {
+  form = form;
+  items = items;
+  fit = all_fit;
+  few = let most = code_most fs code items in omega (arith, most, fit);
+  aimed = aimed_at fs;
+  needs = λ n f there.
+      let own = needed fs ns is few n f there in
+      let enough = own_need_is_enough n f in
+      let limit : callee_need fs (λ g. get_or ns g 0) n ≡ largest (map (λ g. get_or ns g 0) (callees f)) = rw there refl in
+      omega (arith, own, enough, limit);
+}
+
+-- ---- entries
+
+drop_get : (n : ℕ) (xs : List ℕ) (y : ℕ) (ys : List ℕ) → drop n xs ≡ y ∷ ys → get_or xs n 0 ≡ y
+drop_get zero [] y ys is = absurd (cc)
+drop_get zero (x ∷ xs) y ys is = cc
+drop_get (suc n) [] y ys is = absurd (cc)
+drop_get (suc n) (x ∷ xs) y ys is = drop_get n xs y ys is
+
+drop_rest : (n : ℕ) (xs : List ℕ) (y : ℕ) (ys : List ℕ) → drop n xs ≡ y ∷ ys → drop (n + 1) xs ≡ ys
+drop_rest zero [] y ys is = absurd (cc)
+drop_rest zero (x ∷ xs) y ys is = cc
+drop_rest (suc n) [] y ys is = absurd (cc)
+drop_rest (suc n) (x ∷ xs) y ys is = let next : suc n + 1 ≡ suc (n + 1) = omega arith in ap (λ q. drop q (x ∷ xs)) next ∙ drop_rest n xs y ys is
+
+described_from : (offsets ns : List ℕ) (n : ℕ) (rest : List FlatFunc) (tail : List ℕ) → drop n ns ≡ tail → length tail ≡ length rest → AllDescribed rest tail (entries_of offsets ns n rest)
+described_from offsets ns n [] [] is long = tt
+described_from offsets ns n [] (x ∷ tail) is long = absurd (omega (arith, long))
+described_from offsets ns n (f ∷ rest) [] is long = absurd (omega (arith, long))
+described_from offsets ns n (f ∷ rest) (x ∷ tail) is long = (
+  record { name = refl; args = refl; results = refl; need = drop_get n ns x tail is },
+  described_from offsets ns (n + 1) rest tail (drop_rest n ns x tail is) (omega (arith, long)),
+)
+
+pub described : (fs : List FlatFunc) (offsets ns : List ℕ) (es : List Entry) → AreNeeds fs ns → es ≡ entries_of offsets ns 0 fs → AllDescribed fs ns es
+described fs offsets ns es needs are = subst (AllDescribed fs ns) (sym are) (described_from offsets ns 0 fs ns refl needs.count)
+
+entry_at : (offsets ns : List ℕ) (n : ℕ) (rest : List FlatFunc) (k : ℕ) (f : FlatFunc) (e : Entry) → slice_get rest k ≡ Some f → slice_get (entries_of offsets ns n rest) k ≡ Some e
+    → e ≡ entry_of f (get_or offsets (n + k) 0) (get_or ns (n + k) 0)
+entry_at offsets ns n [] k f e there at = absurd (cc)
+entry_at offsets ns n (g ∷ rest) zero f e there at =
+    let same : g ≡ f = cc in
+    let is : entry_of g (get_or offsets n 0) (get_or ns n 0) ≡ e = cc in
+    let number : n ≡ n + 0 = omega arith in
+    sym is ∙ ap (λ h. entry_of h (get_or offsets n 0) (get_or ns n 0)) same ∙ ap (λ q. entry_of f (get_or offsets q 0) (get_or ns q 0)) number
+entry_at offsets ns n (g ∷ rest) (suc k) f e there at =
+    let number : n + 1 + k ≡ n + suc k = omega arith in
+    entry_at offsets ns (n + 1) rest k f e there at ∙ ap (λ q. entry_of f (get_or offsets q 0) (get_or ns q 0)) number
+
+-- where the function of a number stands, and its entry
+record Stands (targets : Targets) (fs : List FlatFunc) (place n : ℕ) (rest : List FlatFunc) (k : ℕ) (f : FlatFunc) : Type 0 where
+  at : ℕ
+  there : slice_get (places targets forgets_none fs place n rest) k ≡ Some at
+  entry : get_or (map offset_of (entries (is_called fs) place n rest)) k 0 ≡ 4 * entry_place targets forgets_none fs at (n + k) f
+
+stands : (targets : Targets) (fs : List FlatFunc) (place n : ℕ) (rest : List FlatFunc) (k : ℕ) (f : FlatFunc) → slice_get rest k ≡ Some f → Stands targets fs place n rest k f
+stands targets fs place n [] k f is = absurd (cc)
+stands targets fs place n (g ∷ rest) zero f is =
+    let same : g ≡ f = cc in
+    let number : n ≡ n + 0 = omega arith in
+    record {
+      at = place;
+      there = refl;
+      entry =
+          ap (λ w. 4 * (if is_called fs n then place + w else place)) (sym (callable_length targets n g))
+          ∙ ap (λ h. 4 * (if is_called fs n then place + length (callable_items targets forgets_none n h) else place)) same
+          ∙ ap (λ q. 4 * (if is_called fs q then place + length (callable_items targets forgets_none q f) else place)) number;
+    }
+stands targets fs place n (g ∷ rest) (suc k) f is =
+    let next = stands targets fs (place + length (function_items targets forgets_none fs n g)) (n + 1) rest k f is in
+    let number : n + 1 + k ≡ n + suc k = omega arith in
+    record {
+      at = next.at;
+      there = next.there;
+      entry =
+          ap (λ w. get_or (map offset_of (entries (is_called fs) (place + w) (n + 1) rest)) k 0) (sym (function_length targets fs n g))
+          ∙ next.entry
+          ∙ ap (λ q. 4 * entry_place targets forgets_none fs next.at q f) number;
+    }
+
+-- the law of programs in code
+abbrev pub CodeShows : Type 0
+CodeShows = (fs : List FlatFunc) (targets : Targets) (need : ℕ → ℕ) (code : List ℕ) → IsCodeOf fs targets need code → (n : ℕ) (f : FlatFunc) (place : ℕ)
+    → slice_get fs n ≡ Some f → slice_get (places targets forgets_none fs 0 0 fs) n ≡ Some place → need n ≤ 1048576 → ShowsFunction fs targets need code n f place
+
+pub shows : (fs : List FlatFunc) (ns code : List ℕ) (es : List Entry) → CodeShows → IsCodeOf fs (aimed (addresses fs)) (λ g. get_or ns g 0) code → AreNeeds fs ns → All (λ n. n ≤ 1048576) ns
+    → es ≡ entries_of (entry_offsets fs) ns 0 fs → ShowsProgram fs es code
+shows fs ns code es law is needs_are few are n f e there at fuel args count words m data_is answers words' j left =
+    let number : 0 + n ≡ n = omega arith in
+    let stand = stands (aimed (addresses fs)) fs 0 0 fs n f there in
+    let less = need_few fs ns needs_are few n f there in
+    let entry : e ≡ entry_of f (get_or (entry_offsets fs) n 0) (get_or ns n 0) =
+    entry_at (entry_offsets fs) ns 0 fs n f e there (ap (λ q. slice_get q n) (sym are) ∙ at) ∙ ap (λ q. entry_of f (get_or (entry_offsets fs) q 0) (get_or ns q 0)) number in
+    let offset : e.offset ≡ 4 * entry_place (aimed (addresses fs)) forgets_none fs stand.at n f =
+    ap (λ q. q.offset) entry ∙ stand.entry ∙ ap (λ q. 4 * entry_place (aimed (addresses fs)) forgets_none fs stand.at q f) number in
+    let need_is : e.need ≡ get_or ns n 0 = ap (λ q. q.need) entry in
+    let shown = law fs (aimed (addresses fs)) (λ g. get_or ns g 0) code is n f stand.at there stand.there less fuel args count words m data_is answers words' j left in
+    subst (λ o. EntryShown code o args m answers j fuel e.need ((fuel + 1) * flat_bulk fs) (λ choices. call fs n args m answers choices fuel)) (sym offset)
+    (subst (λ d. EntryShown code (4 * entry_place (aimed (addresses fs)) forgets_none fs stand.at n f) args m answers j fuel d ((fuel + 1) * flat_bulk fs) (λ choices. call fs n args m answers choices fuel)) (sym need_is) shown)
+
+-- ---- limits
+
+entry_below : (called : ℕ → Bool) (place n : ℕ) (rest : List FlatFunc) (k : ℕ) (f : FlatFunc) → slice_get rest k ≡ Some f → get_or (map offset_of (entries called place n rest)) k 0 < 4 * (place + program_words called n rest)
+entry_below called place n [] k f is = absurd (cc)
+entry_below called place n (g ∷ rest) zero f is = by (called n) refl
+  where
+    by : (b : Bool) → called n ≡ b → 4 * (if called n then place + callable_words g else place) < 4 * (place + (function_words (called n) g + program_words called (n + 1) rest))
+    by true e = rw e (omega arith)
+    by false e = rw e (omega arith)
+entry_below called place n (g ∷ rest) (suc k) f is = let later = entry_below called (place + function_words (called n) g) (n + 1) rest k f is in omega (arith, later)
+
+entry_fours : (called : ℕ → Bool) (place n : ℕ) (rest : List FlatFunc) (k : ℕ) → get_or (map offset_of (entries called place n rest)) k 0 % 4 ≡ 0
+entry_fours called place n [] k = refl
+entry_fours called place n (g ∷ rest) zero = omega arith
+entry_fours called place n (g ∷ rest) (suc k) = entry_fours called (place + function_words (called n) g) (n + 1) rest k
+
+each_in_limits : (words : ℕ) (offsets ns : List ℕ) (n : ℕ) (rest : List FlatFunc) → ((k : ℕ) (f : FlatFunc) → slice_get rest k ≡ Some f → EntryInLimits words (entry_of f (get_or offsets (n + k) 0) (get_or ns (n + k) 0)))
+    → All (EntryInLimits words) (entries_of offsets ns n rest)
+each_in_limits words offsets ns n [] h = All-nil (EntryInLimits words)
+each_in_limits words offsets ns n (f ∷ rest) h =
+    let number : n + 0 ≡ n = omega arith in
+    All-cons (EntryInLimits words) (entry_of f (get_or offsets n 0) (get_or ns n 0)) (entries_of offsets ns (n + 1) rest)
+    (subst (λ q. EntryInLimits words (entry_of f (get_or offsets q 0) (get_or ns q 0))) number (h 0 f refl))
+    (each_in_limits words offsets ns (n + 1) rest (λ k g is. let later : n + suc k ≡ n + 1 + k = omega arith in subst (λ q. EntryInLimits words (entry_of g (get_or offsets q 0) (get_or ns q 0))) later (h (suc k) g is)))
+
+recursion_at : {X : Type 0} (P : X → Type 0) (xs : List X) (n : ℕ) (x : X) → AllByRecursion P xs → slice_get xs n ≡ Some x → P x
+recursion_at P [] n x h is = absurd (cc)
+recursion_at P (y ∷ xs) zero x h is = let same : y ≡ x = cc in subst P same h.0
+recursion_at P (y ∷ xs) (suc n) x h is = recursion_at P xs n x h.1 is
+
+-- two entries have different names
+abbrev Apart : Entry → Entry → Type 0
+Apart a b = a.name ≢ b.name
+
+-- no two functions have one name
+others_differ : (f : FlatFunc) (offsets ns : List ℕ) (n : ℕ) (rest : List FlatFunc) (e : Entry) → e.name ≡ f.name → list_any (λ g. bytes_eq g.name f.name) rest ≡ false → All (λ b. e.name ≢ b.name) (entries_of offsets ns n rest)
+others_differ f offsets ns n [] e is none = All-nil (Apart e)
+others_differ f offsets ns n (g ∷ rest) e is none =
+    let parts = or_parts (bytes_eq g.name f.name) (list_any (λ g. bytes_eq g.name f.name) rest) none in
+    All-cons (Apart e) (entry_of g (get_or offsets n 0) (get_or ns n 0)) (entries_of offsets ns (n + 1) rest)
+    (λ same. true_or_false (bytes_eq g.name f.name) ((bytes_eq-Decides g.name f.name).1 (sym same ∙ is)) parts.0)
+    (others_differ f offsets ns (n + 1) rest e is parts.1)
+  where
+    or_parts : (a b : Bool) → (a || b) ≡ false → (a ≡ false) × (b ≡ false)
+    or_parts true b h = absurd (cc)
+    or_parts false b h = (refl, h)
+
+    true_or_false : (b : Bool) → b ≡ true → b ≡ false → ⊥
+    true_or_false true h k = absurd (cc)
+    true_or_false false h k = absurd (cc)
+
+names_apart : (offsets ns : List ℕ) (n : ℕ) (rest : List FlatFunc) → IsTrue (names_differ rest) → HaveDifferentNames (entries_of offsets ns n rest)
+names_apart offsets ns n [] h = λ i j d lt within. absurd (omega (arith, within))
+names_apart offsets ns n (f ∷ rest) h =
+    let parts = both (not (list_any (λ g. bytes_eq g.name f.name) rest)) (names_differ rest) h in
+    AllPairs-cons Apart (entry_of f (get_or offsets n 0) (get_or ns n 0)) (entries_of offsets ns (n + 1) rest)
+    (others_differ f offsets ns n' rest (entry_of f (get_or offsets n 0) (get_or ns n 0)) refl (none_of (list_any (λ g. bytes_eq g.name f.name) rest) parts.0))
+    (names_apart offsets ns (n + 1) rest parts.1)
+  where
+    n' : ℕ
+    n' = n + 1
+
+    none_of : (b : Bool) → IsTrue (not b) → b ≡ false
+    none_of true h = absurd (cc)
+    none_of false h = refl
+
+pub in_limits : (fs : List FlatFunc) (ns code : List ℕ) (es : List Entry) → IsRegisterForm fs → AreNeeds fs ns → All (λ n. n ≤ 1048576) ns → flat_bulk fs ≤ 1048576
+    → code ≡ map item_word (program_items (aimed (addresses fs)) forgets_none fs 0 fs) → All (λ w. w < 2 ^ 32) code
+    → AllByRecursion (λ f. IsName f.name) fs → es ≡ entries_of (entry_offsets fs) ns 0 fs → InLimits Two es code
+in_limits fs ns code es form is few fit items words named are =
+    let most = code_most fs code items in
+    let all = program_items (aimed (addresses fs)) forgets_none fs 0 fs in
+    let size : length code ≡ length all = ap length items ∙ length-map all item_word in
+    let long = program_length (aimed (addresses fs)) fs 0 fs in
+    record {
+      count = omega (arith, most, fit);
+      words = words;
+      each = subst (All (EntryInLimits (length code))) (sym are)
+          (each_in_limits (length code) (entry_offsets fs) ns 0 fs
+          (λ k f there.
+          let number : 0 + k ≡ k = omega arith in
+          let has = formed fs form k f there in
+          let less = need_few fs ns is few k f there in
+          let inside = entry_below (is_called fs) 0 0 fs k f there in
+          let fours = entry_fours (is_called fs) 0 0 fs k in
+          subst (λ q. EntryInLimits (length code) (entry_of f (get_or (entry_offsets fs) q 0) (get_or ns q 0))) (sym number)
+          (record {
+            name = recursion_at (λ (g : FlatFunc). IsName g.name) fs k f named there;
+            args = has.few_args;
+            results = has.few_results;
+            aligned = fours;
+            offset = omega (arith, inside, size, long);
+            need = less;
+          })));
+      names = subst HaveDifferentNames (sym are) (names_apart (entry_offsets fs) ns 0 fs (both (names_differ fs) (list_all (is_well_formed_function fs) fs) form.0).0);
+    }
+
+-- ---- entries, one after another
+
+pub counts_here : (fs : List FlatFunc) (i : ℕ) (f : FlatFunc) → i < length fs → f ≡ get_or fs i f → AllByRecursion HasFewNames (drop i fs) → HasFewNames f
+counts_here fs i f inside is counts = (subst (AllByRecursion HasFewNames) (drop_next fs i f inside is) counts).0
+
+pub record EntriesStep (offsets ns : List ℕ) (fs : List FlatFunc) (i n : ℕ) (f : FlatFunc) (es es' : List Entry) : Type 0 where
+  pub entries : es' ++ entries_of offsets ns (n + 1) (drop (i + 1) fs) ≡ es ++ entries_of offsets ns n (drop i fs)
+  pub names : AllByRecursion (λ f. IsName f.name) (drop (i + 1) fs) → AllByRecursion (λ f. IsName f.name) (drop i fs)
+  pub counts : AllByRecursion HasFewNames (drop (i + 1) fs)
+
+pub entries_step : (offsets ns : List ℕ) (fs : List FlatFunc) (i n : ℕ) (f : FlatFunc) (es es' : List Entry) → i < length fs → f ≡ get_or fs i f
+    → es' ≡ es ++ entry_of f (get_or offsets n 0) (get_or ns n 0) ∷ [] → IsName f.name → AllByRecursion HasFewNames (drop i fs) → EntriesStep offsets ns fs i n f es es'
+entries_step offsets ns fs i n f es es' inside is new name counts =
+    let next = drop_next fs i f inside is in
+    let here = entry_of f (get_or offsets n 0) (get_or ns n 0) in
+    let rest = entries_of offsets ns (n + 1) (drop (i + 1) fs) in
+    record {
+      entries = ap (λ q. q ++ rest) new ∙ append_assoc es (here ∷ []) rest ∙ ap (λ q. es ++ entries_of offsets ns n q) (sym next);
+      names = λ h. subst (AllByRecursion (λ f. IsName f.name)) (sym next) (name, h);
+      counts = (subst (AllByRecursion HasFewNames) next counts).1;
+    }

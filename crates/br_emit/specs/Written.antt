@@ -1,0 +1,57 @@
+-- Functions in code, one after another.
+use Rattle.std.specs.Prelude.{◌≡◌, ℕ, ◌+◌, ◌*◌, ◌<◌, ◌≤◌, if◌then◌else◌, Bool, false, IsTrue, List, [], ◌∷◌, ◌++◌, length, map, get_or}
+use Rattle.std.specs.List.{AllByRecursion, list_all}
+use Rattle.br_words.specs.declared.layout.Layout.TheVariants.{Two}
+use Rattle.br_words.specs.Layout.{code_base, most_words}
+use Rattle.br_flatimp.specs.declared.program.FlatFunc.{FlatFunc}
+use Rattle.br_flatimp.specs.Parts.{throughout}
+use Rattle.br_flatimp.specs.Sizes.{nest, flat_bulk}
+use Rattle.br_flatimp.specs.Runs.{forgets_none}
+use Rattle.br_emit.specs.Code.{Item, Targets, callable_items, entry_items, direct_items, is_called}
+use Rattle.br_emit.specs.Sizes.{sized_all, begins, entries}
+use Rattle.br_emit.specs.Ready.{is_encodable}
+
+-- the code of a function and its entry, or its entry alone
+abbrev pub one_items : Targets → Bool → ℕ → FlatFunc → List Item
+one_items targets called target f =
+    if called then callable_items targets forgets_none 0 f ++ entry_items target else direct_items targets f
+
+-- functions from number n on, one after another
+abbrev pub rest_items : Targets → (ℕ → Bool) → ℕ → List FlatFunc → List Item
+rest_items targets called n [] = []
+rest_items targets called n (f ∷ rest) = one_items targets (called n) (targets n) f ++ rest_items targets called (n + 1) rest
+
+-- the flag of a number
+abbrev pub flagged : List Bool → ℕ → Bool
+flagged flags n = get_or flags n false
+
+-- a function whose code can be written with so much room for lengths
+pub record Writable (most : ℕ) (f : FlatFunc) : Type 0 where
+  pub nested : nest f ≤ 1048576
+  pub form : IsTrue (list_all (throughout is_encodable) f.body)
+  pub parts : length (sized_all f.body (nest f)).parts ≤ most
+
+-- the address of a word of code, by its place
+abbrev pub address_of : ℕ → ℕ
+address_of place = code_base Two + 4 * place
+
+-- the offset in bytes of a word of code, by its place
+abbrev pub offset_of : ℕ → ℕ
+offset_of place = 4 * place
+
+-- the addresses at which the functions of a program stand
+abbrev pub addresses : List FlatFunc → List ℕ
+addresses fs = map address_of (begins (is_called fs) 0 0 fs)
+
+-- the offsets of their entries
+abbrev pub entry_offsets : List FlatFunc → List ℕ
+entry_offsets fs = map offset_of (entries (is_called fs) 0 0 fs)
+
+-- the flags say which functions are called
+abbrev pub AreCalled : List Bool → List FlatFunc → Type 0
+AreCalled flags fs = (n : ℕ) → n < length fs → flagged flags n ≡ is_called fs n
+
+-- a program whose code can be written with so much room for lengths
+pub record CanWrite (most : ℕ) (fs : List FlatFunc) : Type 0 where
+  pub each : AllByRecursion (Writable most) fs
+  pub few : flat_bulk fs ≤ most_words Two

@@ -1,0 +1,121 @@
+// The code of the functions of a program.
+
+ghost use Rattle.std.specs.Prelude.{◌≡◌, ◌+◌, ◌≤◌, ◌++◌, ℕ, IsTrue, length};
+ghost use Rattle.std.specs.List.{AllByRecursion, list_all};
+ghost use Rattle.br_flatimp.specs.Parts.{throughout};
+ghost use Rattle.br_flatimp.specs.Sizes.{nest};
+ghost use Rattle.br_flatimp.specs.Runs.{forgets_none};
+ghost use Rattle.br_emit.specs.Code.{AllFit, callable_items, entry_items};
+ghost use Rattle.br_emit.specs.Sizes.{sized_all};
+ghost use Rattle.br_emit.specs.Buffer.{appended};
+ghost use Rattle.br_emit.specs.Ready.{Ready, InReach, is_encodable, aimed};
+ghost use Rattle.br_emit.specs.Written.{one_items, rest_items, flagged, Writable};
+
+use crate::code::Code;
+use crate::framing::entry;
+use crate::functions::{callable, direct, nest_all};
+use crate::measuring::measure_all;
+use crate::numbers::Numbers;
+use br_flatimp::FlatFunc;
+
+// The lengths of the parts in a function, in place of those before.
+fn measure_function(lengths: &mut Numbers, f: &FlatFunc)
+    requires nest { nest f.now ≤ 1048576 }
+    requires parts { length (sized_all f.now.body (nest f.now)).parts ≤ lengths.old.room + length lengths.old.numbers }
+    requires few { (sized_all f.now.body (nest f.now)).words ≤ 1048576 }
+    ensures numbers { lengths.new.numbers ≡ (sized_all f.now.body (nest f.now)).parts }
+    ensures kept { lengths.new.room + length lengths.new.numbers ≡ lengths.old.room + length lengths.old.numbers }
+{
+    lengths.clear();
+    measure_all(lengths, f.body.as_slice(), nest_all(f.body.as_slice()));
+}
+
+// The code of a function that is called, and its entry.
+fn write_called(code: &mut Code, targets: &[u32], lengths: &[u32], target: u32, f: &FlatFunc)
+    requires targets { (g : ℕ) → InReach (aimed targets.now g) }
+    requires target { InReach target }
+    requires nest { nest f.now ≤ 1048576 }
+    requires form { IsTrue (list_all (throughout is_encodable) f.now.body) }
+    requires ready { Ready (callable_items (aimed targets.now) forgets_none 0 f.now ++ entry_items target) (sized_all f.now.body (nest f.now)).parts code.old lengths.now }
+    ensures code { code.new ≡ appended code.old (callable_items (aimed targets.now) forgets_none 0 f.now ++ entry_items target) }
+    ensures fit { AllFit (callable_items (aimed targets.now) forgets_none 0 f.now ++ entry_items target) }
+{
+    callable(code, targets, lengths, f);
+    entry(code, target);
+}
+
+// The code of a function and its entry, or its entry alone where nobody calls it.
+fn write_function(
+    code: &mut Code,
+    targets: &[u32],
+    lengths: &mut Numbers,
+    called: bool,
+    target: u32,
+    f: &FlatFunc,
+)
+    requires targets { (g : ℕ) → InReach (aimed targets.now g) }
+    requires target { InReach target }
+    requires writable { Writable (lengths.old.room + length lengths.old.numbers) f.now }
+    requires room { length (one_items (aimed targets.now) called target f.now) ≤ code.old.room }
+    requires few { length (one_items (aimed targets.now) called target f.now) ≤ 1048576 }
+    ensures code { code.new ≡ appended code.old (one_items (aimed targets.now) called target f.now) }
+    ensures fit { AllFit (one_items (aimed targets.now) called target f.now) }
+    ensures kept { lengths.new.room + length lengths.new.numbers ≡ lengths.old.room + length lengths.old.numbers }
+{
+    measure_function(lengths, f);
+    if called {
+        write_called(code, targets, lengths.as_slice(), target, f);
+    } else {
+        direct(code, targets, lengths.as_slice(), f);
+    }
+}
+
+// Whether the flag of a number is set.
+pub fn is_flagged(flags: &[bool], n: usize) -> bool
+    ensures { result ≡ flagged flags.now n }
+{
+    match flags.get(n) {
+        Some(flag) => *flag,
+        None => false,
+    }
+}
+
+// Where the function of a number stands.
+fn target_of(targets: &[u32], n: usize) -> u32
+    ensures { result ≡ aimed targets.now n }
+{
+    match targets.get(n) {
+        Some(target) => *target,
+        None => 0,
+    }
+}
+
+/// The code of functions, one after another, given where each stands and which of them are called.
+pub fn write_functions(
+    code: &mut Code,
+    targets: &[u32],
+    lengths: &mut Numbers,
+    called: &[bool],
+    funcs: &[FlatFunc],
+)
+    requires targets { (g : ℕ) → InReach (aimed targets.now g) }
+    requires writable { AllByRecursion (Writable (lengths.old.room + length lengths.old.numbers)) funcs.now }
+    requires room { length (rest_items (aimed targets.now) (flagged called.now) 0 funcs.now) ≤ code.old.room }
+    requires few { length (rest_items (aimed targets.now) (flagged called.now) 0 funcs.now) ≤ 1048576 }
+    ensures code { code.new ≡ appended code.old (rest_items (aimed targets.now) (flagged called.now) 0 funcs.now) }
+    ensures fit { AllFit (rest_items (aimed targets.now) (flagged called.now) 0 funcs.now) }
+    ensures kept { lengths.new.room + length lengths.new.numbers ≡ lengths.old.room + length lengths.old.numbers }
+{
+    let mut n = 0usize;
+    for f in funcs {
+        write_function(
+            code,
+            targets,
+            lengths,
+            is_flagged(called, n),
+            target_of(targets, n),
+            f,
+        );
+        n += 1;
+    }
+}
