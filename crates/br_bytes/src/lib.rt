@@ -10,6 +10,3 @@ mod run;
 pub use byte_map::{ByteMap, Overlap};
 pub use laws::{get_after_put, get_and_put_miss_alike, put_leaves_others};
 pub use run::{Choice, Event, Outcome};
-
-#[cfg(test)]
-mod tests;

@@ -11,6 +11,3 @@ pub use compiling::compile;
 pub use laws::{first_steps_show_a_run, texts_are_accepted_or_at_fault};
 pub use lowering::{Lowered, MOST_BYTES, lower};
 pub use refusal::Refusal;
-
-#[cfg(test)]
-mod tests;

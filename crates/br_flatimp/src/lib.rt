@@ -21,6 +21,3 @@ pub use laws::{
 };
 pub use program::{Cond, FlatFunc, FlatProgram, Operand, Proposal, Rel, Stmt};
 pub use run_laws::{bounds_do_not_show, longer_lists_stay, more_fuel_goes_on, runs_only_take};
-
-#[cfg(test)]
-mod tests;

@@ -9,8 +9,6 @@ mod parsing;
 mod printing;
 mod reading;
 mod scripts;
-#[cfg(test)]
-mod tests;
 mod traces;
 
 pub use faults::ImageFault;

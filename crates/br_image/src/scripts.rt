@@ -7,8 +7,6 @@ mod order;
 pub(crate) mod parsing;
 mod reading;
 mod said;
-#[cfg(test)]
-mod tests;
 mod values;
 
 pub use laws::{one_interp_script_or_one_fault, one_run_script_or_one_fault};

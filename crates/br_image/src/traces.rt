@@ -5,8 +5,6 @@ pub(crate) mod lines;
 mod parsing;
 mod reading;
 mod shown;
-#[cfg(test)]
-mod tests;
 
 pub use laws::one_trace_or_one_fault;
 pub use reading::{TraceFault, read_trace};

@@ -9,6 +9,3 @@ mod word;
 
 pub use judge::Judge;
 pub use laws::{events_lead_on, places_stand};
-
-#[cfg(test)]
-mod tests;

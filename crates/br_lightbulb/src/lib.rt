@@ -11,6 +11,3 @@ pub use laws::{
     text_stands_for_trees, words_show_pieces,
 };
 pub use text::TEXT;
-
-#[cfg(test)]
-mod tests;

@@ -13,8 +13,6 @@ mod start;
 mod step;
 mod stepped;
 mod table;
-#[cfg(test)]
-mod tests;
 mod trace;
 mod traps;
 

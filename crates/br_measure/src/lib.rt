@@ -20,6 +20,3 @@ pub use faults::NameFault;
 pub use laws::{
     faults_are_unique, measures_add_up, programs_are_decided, sound_programs_have_no_fault,
 };
-
-#[cfg(test)]
-mod tests;

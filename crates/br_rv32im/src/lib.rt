@@ -19,6 +19,3 @@ pub use encoding::{encode, fits};
 pub use instruction::{BranchOp, ImmOp, Ins, LoadOp, RegOp, ShiftOp, StoreOp, UpperOp};
 pub use laws::instructions_and_words_match;
 pub use text::listing;
-
-#[cfg(test)]
-mod tests;

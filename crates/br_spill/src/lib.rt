@@ -16,6 +16,3 @@ pub use laws::{
 };
 pub use place::Place;
 pub use spilling::spill;
-
-#[cfg(test)]
-mod tests;

@@ -9,8 +9,6 @@ mod laws;
 mod part;
 mod program;
 mod shaped;
-#[cfg(test)]
-mod tests;
 mod word;
 mod write_cmd;
 mod write_expr;

@@ -9,8 +9,6 @@ mod lines;
 mod making;
 mod refusal_lines;
 mod runs;
-#[cfg(test)]
-mod tests;
 mod top;
 mod trouble;
 

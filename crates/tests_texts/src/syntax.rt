@@ -1,8 +1,8 @@
 // Texts and what their trees stand for.
 
-use crate::{Cmd, Program, ShapeFault, from_tree, to_tree};
 use br_base::OrMemory;
 use br_sexpr::{Tree, print, read};
+use br_syntax::{Cmd, Program, ShapeFault, from_tree, to_tree};
 use sqlite_items::Items;
 use std::alloc::Global;
 use std::test::Fail;

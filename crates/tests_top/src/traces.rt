@@ -1,15 +1,14 @@
 // The command `judge` over ends in memory.
 
-use crate::tests::{NEVER, answer, repeated};
+use crate::calling::{NEVER, answer, repeated};
 use br_base::Status;
 use std::test::Fail;
 
 /// The first events of the firmware: the light's pin becomes an output, and the chip is selected.
-pub(crate) const BEGINS: &[u8] =
-    b"read 10012008 00000000\nwrite 10012008 00800000\nwrite 10024018 00000002\n";
+const BEGINS: &[u8] = b"read 10012008 00000000\nwrite 10012008 00800000\nwrite 10024018 00000002\n";
 
 /// A read that finds the port for bytes to send busy.
-pub(crate) const BUSY: &[u8] = b"read 10024048 80000000\n";
+const BUSY: &[u8] = b"read 10024048 80000000\n";
 
 /// The chip is released, and the call ends.
 const GIVES_UP: &[u8] = b"write 10024018 00000000\nhalted 00000001\n";

@@ -5,13 +5,9 @@ ghost use Rattle.br_words.specs.Layout.{data_base, stack_base};
 ghost use Rattle.br_machine.specs.Start.{IsInData};
 ghost use Rattle.br_machine.specs.Pages.{page_count};
 
-use crate::laws::memories_of_the_data_region;
-use crate::machine::Machine;
-use crate::running::{End, run};
-use crate::stepped::{Stepped, Trap};
-use crate::trace::Trace;
 use br_base::NoMemory;
 use br_bytes::{ByteMap, Event};
+use br_machine::{End, Machine, Stepped, Trace, Trap, memories_of_the_data_region, run};
 use br_words::Layout;
 use std::alloc::Global;
 

@@ -1,4 +1,4 @@
-use crate::{Refusal, compile, lower};
+use br_compile::{Refusal, compile, lower};
 use br_measure::NameFault;
 use br_sexpr::TextFault;
 use br_syntax::ShapeFault;

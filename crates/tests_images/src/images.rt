@@ -1,7 +1,7 @@
 // The text of images.
 
-use crate::{Entry, Image, ImageFault, ScriptFault, TraceFault, print, read};
 use br_base::{Name, NoMemory, OrMemory};
+use br_image::{Entry, Image, ImageFault, ScriptFault, TraceFault, print, read};
 use br_words::Layout;
 use sqlite_items::Items;
 use std::alloc::Global;

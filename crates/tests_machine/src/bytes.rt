@@ -1,7 +1,7 @@
 ghost use Rattle.std.specs.Prelude.{◌+◌, ◌^◌, ◌<◌};
 
-use super::*;
 use br_base::OrMemory;
+use br_bytes::{ByteMap, Overlap};
 use br_words::Size;
 use std::collections::BTreeMap;
 use std::test::Fail;

@@ -1,8 +1,8 @@
 // Trace texts.
 
-use crate::{TraceFault, read_trace};
 use br_base::OrMemory;
 use br_bytes::Event;
+use br_image::{TraceFault, read_trace};
 use std::test::Fail;
 
 #[test]

@@ -1,4 +1,4 @@
-use super::*;
+use br_lightbulb::program;
 use br_sexpr::print;
 use br_syntax::to_tree;
 use std::test::Fail;

@@ -1,5 +1,5 @@
-use super::*;
 use br_bytes::Event;
+use br_judge::Judge;
 use std::alloc::AllocError;
 use std::test::Fail;
 

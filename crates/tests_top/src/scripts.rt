@@ -1,13 +1,13 @@
 // The commands `run` and `interp` over ends in memory.
 
-use crate::tests::{MOST, NEVER, ROOM, WRITES_A_WORD, answer, repeated};
-use crate::tool;
+use crate::calling::{MOST, NEVER, ROOM, WRITES_A_WORD, answer, repeated};
 use br_base::{MemSink, Status, SureSink, SureSource};
+use br_top::tool;
 use std::alloc::{AllocError, Global};
 use std::test::Fail;
 
 /// These parts, one after the other.
-pub(crate) fn joined(alloc: Global, parts: &[&[u8]]) -> Result<Vec<u8>, AllocError> {
+fn joined(alloc: Global, parts: &[&[u8]]) -> Result<Vec<u8>, AllocError> {
     let mut whole = Vec::new(alloc);
     for part in parts {
         whole.extend_from_slice(part)?;
@@ -16,7 +16,7 @@ pub(crate) fn joined(alloc: Global, parts: &[&[u8]]) -> Result<Vec<u8>, AllocErr
 }
 
 /// The lines of a run script after `call main` in most cases.
-pub(crate) const PLAIN_RUN: &[u8] = b"args\njunk 00000000\nlimit 100000\nend\n";
+const PLAIN_RUN: &[u8] = b"args\njunk 00000000\nlimit 100000\nend\n";
 
 /// The lines of an interp script after `call main` in most cases.
 const PLAIN_INTERP: &[u8] = b"args\nlimit 100000\nend\n";

@@ -1,7 +1,7 @@
 // Scripts.
 
-use crate::{ScriptFault, read_interp, read_run};
 use br_base::{NoMemory, OrMemory};
+use br_image::{ScriptFault, read_interp, read_run};
 use std::alloc::Global;
 use std::test::Fail;
 

@@ -1,7 +1,7 @@
 // Programs that break one rule each.
 
-use crate::{Cond, FlatFunc, FlatProgram, Operand, Rel, Stmt, well_formed};
 use br_base::Name;
+use br_flatimp::{Cond, FlatFunc, FlatProgram, Operand, Rel, Stmt, well_formed};
 use br_words::{BinOp, Size};
 use sqlite_items::Items;
 use std::alloc::Global;

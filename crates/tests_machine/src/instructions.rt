@@ -1,4 +1,4 @@
-use super::*;
+use br_rv32im::*;
 use std::test::Fail;
 
 // Each instruction with the least, the greatest and another immediate, or with several registers:

@@ -1,9 +1,8 @@
 // Programs in register form: where the words of names stand, and how words are passed.
 
-use crate::passing::registers;
-use crate::spill;
 use br_base::Name;
 use br_flatimp::{FlatFunc, FlatProgram, Operand, Stmt, well_formed};
+use br_spill::spill;
 use br_words::BinOp;
 use sqlite_items::Items;
 use std::alloc::Global;
@@ -98,18 +97,5 @@ fn eight_words_are_passed(rt: HostRuntime) -> Result<(), Fail> {
     for f in made.funcs.as_slice() {
         assert_eq!(rt; size_of(f.body.as_slice()), (0, 17));
     }
-    Ok(())
-}
-
-#[test]
-fn registers_pass_eight_words_at_most(rt: HostRuntime) -> Result<(), Fail> {
-    let alloc = rt.alloc();
-    let eight = registers(alloc, 8)?;
-    assert_eq!(rt;
-        eight.as_slice(),
-        [10, 11, 12, 13, 14, 15, 16, 17].as_slice()
-    );
-    let nine = registers(alloc, 9).is_err();
-    assert!(rt; nine, "a ninth register");
     Ok(())
 }

@@ -1,7 +1,7 @@
 // Listings.
 
-use crate::list;
 use br_image::read;
+use br_listing::list;
 use std::test::Fail;
 
 #[test]

@@ -1,7 +1,7 @@
 // Programs and their faults.
 
-use crate::{Checked, NameFault, check};
 use br_base::OrMemory;
+use br_measure::{Checked, NameFault, check};
 use br_syntax::from_tree;
 use std::alloc::{AllocError, Global};
 use std::fmt::Write;

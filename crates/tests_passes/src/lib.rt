@@ -1,0 +1,11 @@
+//! Tests of flat programs, register form, the compiler and the program of the firmware. They stand in a crate of their own, since the proof of a crate with tests is made twice.
+#![tactic(auto)]
+
+#[cfg(test)]
+mod compiling;
+#[cfg(test)]
+mod flat_programs;
+#[cfg(test)]
+mod lightbulb;
+#[cfg(test)]
+mod spilling;
