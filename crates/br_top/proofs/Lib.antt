@@ -1,4 +1,5 @@
 pub mod Called
+pub mod Lightbulb
 pub mod OneInterp
 pub mod OneRun
 pub mod Refused

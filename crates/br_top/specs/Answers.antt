@@ -1,9 +1,13 @@
 -- What each answer of the top call says of its ends.
 use Rattle.std.specs.Prelude.{ℕ, ◌≡◌, ◌+◌, ◌≤◌, List, length, Option, ◌⊎◌, String, IsTrue, IsFalse}
 use Rattle.std.specs.declared.alloc.Global.{Global}
-use Rattle.std.specs.Io.KnownBytes.{Consumes, IsAtEnd}
+use Rattle.std.specs.Io.KnownBytes.{Consumes, IsAtEnd, Appends}
 use Rattle.br_base.specs.Ends.{ConsumesMany, ConsumesAtMost}
+use Rattle.br_image.specs.declared.images.Image.{Image}
+use Rattle.br_image.specs.Printed.{image_text}
+use Rattle.br_lightbulb_image.specs.Images.{IsFirmwareText, ImageStaysGood}
 use Rattle.br_top.specs.declared.command.Command.{Command}
+use Rattle.br_top.specs.declared.command.Command.TheVariants.{Compile}
 use Rattle.br_top.specs.declared.trouble.Reason.{Reason}
 use Rattle.br_top.specs.declared.trouble.Reason.TheVariants.{TooLong}
 use Rattle.br_top.specs.Refusals.{reason_line}
@@ -36,6 +40,13 @@ abbrev pub IsDueText : List (String Global) → Option (List ℕ) → Option (Li
 IsDueText words before after text =
     (command : Command) × (bytes : List ℕ) × AreWordsOf words command × ReadsAll command before after bytes
     × IsUnrefused command bytes × Adds command bytes text
+
+-- An image was written for the bytes that `compile` read. Where these are a text of the firmware, all that
+-- the image does stays in the firmware's trace language.
+abbrev pub WritesGoodImage : (before after held held' : Option (List ℕ)) → Type 0
+WritesGoodImage before after held held' =
+    (bytes : List ℕ) × (image : Image) × ReadsAll Compile before after bytes × Appends held held' (image_text image)
+    × (IsFirmwareText bytes → ImageStaysGood image)
 
 -- the words are a command's, what was read of its input is refused, and this line says why
 abbrev pub IsDueLine : List (String Global) → Option (List ℕ) → Option (List ℕ) → List ℕ → Type 0

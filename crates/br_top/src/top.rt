@@ -4,11 +4,12 @@ ghost use Rattle.std.specs.Prelude.{◌≡◌, ◌≤◌, ℕ, List, Some, ◌�
 ghost use Rattle.std.specs.Io.KnownBytes.{Appends};
 ghost use Rattle.br_base.specs.Ends.{Rose, AppendsSome};
 ghost use Rattle.br_top.specs.declared.command.Command.{Command};
+ghost use Rattle.br_top.specs.declared.command.Command.TheVariants.{Compile};
 ghost use Rattle.br_top.specs.declared.trouble.Reason.{Reason};
 ghost use Rattle.br_top.specs.Commands.{AreWords, AreWordsOf, Refuses, reads_input};
 ghost use Rattle.br_top.specs.Lines.{usage_line, read_fault_line, write_fault_line, no_memory_line};
 ghost use Rattle.br_top.specs.Refusals.{reason_line};
-ghost use Rattle.br_top.specs.Answers.{IsDueText, IsDueLine, IsUnrefused, FailsWithin, StopsWithin};
+ghost use Rattle.br_top.specs.Answers.{IsDueText, IsDueLine, IsUnrefused, FailsWithin, StopsWithin, WritesGoodImage};
 ghost use Rattle.br_top.specs.Reports.{Tells};
 
 use crate::command::command_of;
@@ -18,6 +19,7 @@ use crate::making::made_text;
 use crate::refusal_lines::reason_line;
 use crate::trouble::{Reason, Trouble};
 use br_base::{NoMemory, Sink, Source, Status};
+use br_lightbulb_image::firmware_images_stay_good;
 use std::alloc::Global;
 
 /// Does what the words ask for, which leave out the program's own name.
@@ -40,6 +42,11 @@ pub fn tool<S: Source, O: Sink, E: Sink>(
         × (S.faults input.new ≡ S.faults input.old)
         × (O.faults out.new ≡ O.faults out.old)
         × (err.new ≡ err.old) }
+
+    // Where the text that was read stands for the firmware, no run of the image that was written ever
+    // leaves the firmware's trace language, and none traps.
+    ensures lightbulb { result ≡ Status.Done → AreWordsOf words.now Compile →
+        WritesGoodImage (S.left input.old) (S.left input.new) (O.held out.old) (O.held out.new) }
 
     // What was read is refused, and standard error gained the line that says why.
     ensures refused { result ≡ Status.Refused → (line : List ℕ)
@@ -111,7 +118,10 @@ pub fn tool<S: Source, O: Sink, E: Sink>(
     match command_of(words) {
         None => answer_line(err, usage_line(), Status::Usage),
         Some(command) => match made_text(alloc, command, input) {
-            Ok(text) => answer_text(out, err, &text),
+            Ok(text) => {
+                firmware_images_stay_good();
+                answer_text(out, err, &text)
+            }
             Err(Trouble::Refused(reason)) => answer_refusal(alloc, err, &reason),
             Err(Trouble::ReadFault) => {
                 tell(err, read_fault_line());

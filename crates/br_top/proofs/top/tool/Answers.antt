@@ -1,9 +1,11 @@
 use Rattle.std.proofs.Common.{ℕ, List, ◌≡◌, subst, sym, inl, inr, refl, Err}
 use Rattle.br_top.specs.declared.command.Command.{Command}
+use Rattle.br_top.specs.declared.command.Command.TheVariants.{Compile}
 use Rattle.br_top.specs.declared.trouble.Trouble.TheVariants.{Refused}
 use Rattle.br_top.specs.Commands.{Adds, Refuses}
 use Rattle.br_top.specs.Answers.{IsUnrefused}
 use Rattle.br_top.specs.Refusals.{reason_line}
+use Rattle.br_top.proofs.Lightbulb.{writes_good_image}
 use Rattle.br_top.proofs.Words.{one_command}
 use Rattle.br_top.proofs.Refused.{refused-reads, unrefused-reads}
 use Rattle.br_top.proofs.top.tool.Goals as goal
@@ -23,6 +25,18 @@ returns-in-Ok-clause-done g c is =
             done.2,
             done.3,
           )
+      | inr failed ↦ absurd (let no = failed.0 in cc)
+    ]
+
+-- and where the words are those of `compile`, it is the text of an image of what was read
+pub returns-in-Ok-clause-lightbulb : goal.returns-in-Ok-clause-lightbulb
+returns-in-Ok-clause-lightbulb g c is words =
+    elim c.answer_text.ensures.answered [
+      | inl done ↦
+          let made = c.in-Ok.ensures.made in
+          let same = one_command _ Compile c.in-Some.command words c.in-Some.ensures in
+          writes_good_image c.firmware_images_stay_good.ensures c.in-Some.command same _ _ _ _ made.0 _ _
+          made.1 made.3 c.deref.ensures.value done.1
       | inr failed ↦ absurd (let no = failed.0 in cc)
     ]
 
