@@ -24,14 +24,13 @@ use Rattle.br_measure.specs.Measure as measure
 use Rattle.br_measure.specs.Measure.{nested_step}
 use Rattle.br_measure.specs.Paths as paths
 use Rattle.br_measure.specs.Paths.{callees_step}
-use Rattle.br_flatimp.specs.declared.program.Cond.TheVariants.{NonZero}
 use Rattle.br_flatimp.specs.declared.program.Stmt.{Stmt}
 use Rattle.br_flatimp.specs.declared.program.Stmt.TheOpen.{Stmt-F}
 use Rattle.br_flatimp.specs.declared.program.Stmt.TheViews.{roll-Stmt}
 use Rattle.br_flatimp.specs.declared.program.FlatFunc.{FlatFunc}
 use Rattle.br_flatimp.specs.WellFormed.{counts_fit, values_fit}
 use Rattle.br_flatimp.specs.WellFormed as fit
-use Rattle.br_flatten.specs.Flatten.{above, number, is_listed, lists_names, lists_expression, lists_expressions, lists_command_step, lists_command, place, next, code, codes_of, places_of, expression, joined, read_statements, write_statements, device_statements, callee_number, command_step, command}
+use Rattle.br_flatten.specs.Flatten.{above, number, is_listed, lists_names, lists_expression, lists_expressions, lists_command_step, lists_command, place, next, code, codes_of, places_of, branches, expression, joined, read_statements, write_statements, device_statements, callee_number, command_step, command}
 use Rattle.br_flatten.specs.Places.{all_of, expression_variables, expressions_variables, command_variables_step, command_variables}
 use Rattle.br_flatten.proofs.LeastAbove.{above-append}
 use Rattle.br_flatten.proofs.Numbers.{and-first, and-second, number-below, number-same}
@@ -218,7 +217,7 @@ commands-sized fs qs names h each (x ∷ xs) none shaped =
 module _ (fs : List Func) (qs : List FlatFunc) (names : List Name) where
   set-sized : (x : Name) (e : Expr) → Body fs qs (length names) (is_listed names x && lists_expression names e) (1 + expression_bulk e) (x ∷ expression_variables e) 0 [] ((expression names e).into (number names x) (length names))
   set-sized x e =
-      let s = expression_sized qs names e in
+      let s = (expression_sized qs names e).words in
       record {
         weight = s.weight;
         split = let split = s.split in omega (arith, split);
@@ -229,13 +228,13 @@ module _ (fs : List Func) (qs : List FlatFunc) (names : List Name) where
             (s.into (number names x) (length names) (and-second (is_listed names x) (lists_expression names e) listed) (omega arith));
       }
 
-  operand-coded : (e : Expr) (free : ℕ) → lists_expression names e ≡ true → length names ≤ free → Coded qs (expression_bulk e) (expression_sized qs names e).weight free (expression names e)
-  operand-coded e free listed le = coded qs (length names) (lists_expression names e) (expression_bulk e) (expression_variables e) (expression names e) (expression_sized qs names e) listed free le
+  operand-coded : (e : Expr) (free : ℕ) → lists_expression names e ≡ true → length names ≤ free → Coded qs (expression_bulk e) (expression_sized qs names e).words.weight free (expression names e)
+  operand-coded e free listed le = coded qs (length names) (lists_expression names e) (expression_bulk e) (expression_variables e) (expression names e) (expression_sized qs names e).words listed free le
 
   store-sized : (size : Size) (a e : Expr) → Body fs qs (length names) (lists_expression names a && lists_expression names e) (1 + expression_bulk a + expression_bulk e) (expression_variables a ++ expression_variables e) 0 [] (command_step fs names (Cmd-F.Store size a e))
   store-sized size a e =
-      let s = expression_sized qs names a in
-      let t = expression_sized qs names e in
+      let s = (expression_sized qs names a).words in
+      let t = (expression_sized qs names e).words in
       record {
         weight = s.weight + t.weight;
         split = let split = s.split in let split' = t.split in let len = length-append (expression_variables a) (expression_variables e) in omega (arith, split, split', len);
@@ -343,7 +342,7 @@ module _ (fs : List Func) (qs : List FlatFunc) (names : List Name) where
       → Body fs qs (length names) (lists_expression names e && (list_all (λ ok. ok) (map (lists_command names) ps) && list_all (λ ok. ok) (map (lists_command names) bs)))
       (1 + expression_bulk e + sum (map command_bulk ps) + sum (map command_bulk bs)) (expression_variables e ++ (all_of (map command_variables ps) ++ all_of (map command_variables bs)))
       (max (measure.largest (map nested ps)) (measure.largest (map nested bs))) (paths.joined (map called ps) ++ paths.joined (map called bs))
-      (code (expression names e) (length names) ++ roll-Stmt (Stmt-F.If (NonZero (place (expression names e).variable (length names))) (joined (map (command fs names) ps)) (joined (map (command fs names) bs))) ∷ [])
+      (branches ((expression names e).test (length names)) (joined (map (command fs names) ps)) (joined (map (command fs names) bs)))
   if-sized e ps bs first second none shaped =
       let faults1 = joins (map (faults fs) ps) in
       let faults2 = joins (map (faults fs) bs) in
@@ -351,7 +350,7 @@ module _ (fs : List Func) (qs : List FlatFunc) (names : List Name) where
       let shaped2 = list_all (λ ok. ok) (map is_shaped_command bs) in
       let a = first (none-first faults1 faults2 none) (and-first shaped1 shaped2 shaped) in
       let b = second (none-second faults1 faults2 none) (and-second shaped1 shaped2 shaped) in
-      let s = expression_sized qs names e in
+      let s = (expression_sized qs names e).words in
       let us = expression_variables e in
       let vs = all_of (map command_variables ps) in
       let ws = all_of (map command_variables bs) in
@@ -365,7 +364,7 @@ module _ (fs : List Func) (qs : List FlatFunc) (names : List Name) where
         fine = λ listed.
             let free = length names in
             let rest = and-second (lists_expression names e) (lists1 && lists2) listed in
-            let c = operand-coded e free (and-first (lists_expression names e) (lists1 && lists2) listed) (omega arith) in
+            let c = (expression_sized qs names e).test free (and-first (lists_expression names e) (lists1 && lists2) listed) (omega arith) in
             let below = c.below in
             let top = free + (s.weight + (a.weight + b.weight)) in
             let size = expression_bulk e in
@@ -378,10 +377,10 @@ module _ (fs : List Func) (qs : List FlatFunc) (names : List Name) where
             let hs = map (callee_number fs) (paths.joined (map called bs)) in
             let A = joined (map (command fs names) ps) in
             let B = joined (map (command fs names) bs) in
-            let C = code (expression names e) free in
-            let p = place (expression names e).variable free in
-            let y : Stmt-F Stmt = Stmt-F.If (NonZero p) A B in
-            let last = fine-if qs top one two deep gs hs p A B (omega (arith, below))
+            let test = (expression names e).test free in
+            let C = test.before in
+            let y : Stmt-F Stmt = Stmt-F.If test.cond A B in
+            let last = fine-if qs top one two deep gs hs test.cond A B (omega (arith, below))
             (fine-within qs (free + a.weight) one deep1 top one deep gs A (omega arith) (omega arith) (omega arith) (a.fine (and-first lists1 lists2 rest)))
             (fine-within qs (free + b.weight) two deep2 top two deep hs B (omega arith) (omega arith) (omega arith) (b.fine (and-second lists1 lists2 rest))) in
             subst (λ q. Fine qs top (1 + size + one + two) deep q (C ++ roll-Stmt y ∷ [])) (sym (map-append (callee_number fs) (paths.joined (map called ps)) (paths.joined (map called bs))))
@@ -393,10 +392,10 @@ module _ (fs : List Func) (qs : List FlatFunc) (names : List Name) where
   while-sized : (e : Expr) (cs : List Cmd) → CommandsSized fs qs names cs → joins (map (faults fs) cs) ≡ [] → list_all (λ ok. ok) (map is_shaped_command cs) ≡ true
       → Body fs qs (length names) (lists_expression names e && list_all (λ ok. ok) (map (lists_command names) cs)) (1 + expression_bulk e + sum (map command_bulk cs)) (expression_variables e ++ all_of (map command_variables cs))
       (measure.largest (map nested cs)) (paths.joined (map called cs))
-      (roll-Stmt (Stmt-F.Loop (code (expression names e) (length names)) (NonZero (place (expression names e).variable (length names))) (joined (map (command fs names) cs))) ∷ [])
+      (roll-Stmt (Stmt-F.Loop ((expression names e).test (length names)).before ((expression names e).test (length names)).cond (joined (map (command fs names) cs))) ∷ [])
   while-sized e cs inner none shaped =
       let b = inner none shaped in
-      let s = expression_sized qs names e in
+      let s = (expression_sized qs names e).words in
       let us = expression_variables e in
       let vs = all_of (map command_variables cs) in
       let lists = list_all (λ ok. ok) (map (lists_command names) cs) in
@@ -405,7 +404,7 @@ module _ (fs : List Func) (qs : List FlatFunc) (names : List Name) where
         split = let split = s.split in let split' = b.split in let len = length-append us vs in omega (arith, split, split', len);
         fine = λ listed.
             let free = length names in
-            let c = operand-coded e free (and-first (lists_expression names e) lists listed) (omega arith) in
+            let c = (expression_sized qs names e).test free (and-first (lists_expression names e) lists listed) (omega arith) in
             let below = c.below in
             let top = free + (s.weight + b.weight) in
             let size = expression_bulk e in
@@ -413,8 +412,9 @@ module _ (fs : List Func) (qs : List FlatFunc) (names : List Name) where
             let deep = measure.largest (map nested cs) in
             let gs = map (callee_number fs) (paths.joined (map called cs)) in
             let B = joined (map (command fs names) cs) in
-            let C = code (expression names e) free in
-            fine-loop qs top size one deep [] gs (place (expression names e).variable free) C B (omega (arith, below))
+            let test = (expression names e).test free in
+            let C = test.before in
+            fine-loop qs top size one deep [] gs test.cond C B (omega (arith, below))
             (fine-within qs (free + s.weight) size 0 top size deep [] C (omega arith) (omega arith) (omega arith) c.body)
             (fine-within qs (free + b.weight) one deep top one deep gs B (omega arith) (omega arith) (omega arith) (b.fine (and-second (lists_expression names e) lists listed)));
       }

@@ -18,17 +18,18 @@ use Rattle.br_syntax.specs.NameFaults.{NameFault, DuplicateFunction, UnknownFunc
 use Rattle.br_source_meaning.specs.Values as source
 use Rattle.br_source_meaning.specs.Values.{Name, value, values, without_local}
 use Rattle.br_source_meaning.specs.Runs as src
-use Rattle.br_flatimp.specs.declared.program.Cond.TheVariants.{NonZero}
 use Rattle.br_flatimp.specs.declared.program.Stmt.{Stmt}
 use Rattle.br_flatimp.specs.declared.program.Stmt.TheOpen.{Stmt-F}
 use Rattle.br_flatimp.specs.declared.program.Stmt.TheViews.{roll-Stmt}
-use Rattle.br_flatimp.specs.Values.{Locals, with_local, with_locals, moved}
+use Rattle.br_flatimp.specs.Values.{Locals, with_local, with_locals, moved, test_word}
 use Rattle.br_flatimp.specs.Matches.{SameOutside, CallMatches}
 use Rattle.br_flatimp.specs.Runs.{State, Run, Callee}
 use Rattle.br_flatimp.proofs.Matches.{matches-then_do, matches-with_defined, matches-choose, matches-with_fuel, given, matches-with_buffer, matches-back_in}
-use Rattle.br_flatten.specs.Flatten.{number, is_listed, lists_names, lists_expression, lists_expressions, lists_command_step, lists_command, place, next, code, codes_of, places_of, device_statements, expression, joined, callee_number, command_step, command}
+use Rattle.br_flatten.specs.Flatten.{number, is_listed, lists_names, lists_expression, lists_expressions, lists_command_step, lists_command, place, next, code, codes_of, places_of, device_statements, expression, branches, joined, callee_number, command_step, command}
 use Rattle.br_flatten.proofs.Numbers.{and-first, and-second}
-use Rattle.br_flatten.proofs.Expressions.{does, does-append, does-after, does-one, holds-kept, Placed, placed, expression_claim}
+use Rattle.br_flatten.proofs.Turns.{does, does-append, does-after, does-one}
+use Rattle.br_flatten.proofs.Comparisons.{Tests}
+use Rattle.br_flatten.proofs.Expressions.{holds-kept, Placed, placed, expression_claim}
 use Rattle.br_flatten.proofs.Pieces.{At, Out, AtMatches, at-locals, matches-source, matches-from, holds-changed, holds-set, holds-unset, holds-set_all, put-moved, all_placed, length-values, device-matches, Tested, while-matches}
 
 -- ---- faults
@@ -67,8 +68,14 @@ pub record CalleesFit (fs : List Func) (q : Callee) (p : src.Callee) : Type 0 wh
 word_placed : (names : List Name) (call : Callee) (e : Expr) (free : ℕ) (s : State) (t : src.State) (v : ℕ) → lists_expression names e ≡ true → length names ≤ free → At names s t → value t.locals t.memory e ≡ Some v
     → Placed (does call (code (expression names e) free)) s (place ((expression names e).variable) free) v free (next ((expression names e).variable) free)
 word_placed names call e free s t v listed le h is =
-    placed names call (lists_expression names e) (expression names e) (λ m k. value m k e) (expression_claim names call e) free s t.locals v listed le h.locals
+    placed names call (lists_expression names e) (expression names e) (λ m k. value m k e) (expression_claim names call e).words free s t.locals v listed le h.locals
     (subst (λ m. value t.locals m e ≡ Some v) (sym h.outside.memory) is)
+
+-- its test
+word_tested : (names : List Name) (call : Callee) (e : Expr) (free : ℕ) (s : State) (t : src.State) (v : ℕ) → lists_expression names e ≡ true → length names ≤ free → At names s t → value t.locals t.memory e ≡ Some v
+    → Tests (does call ((expression names e).test free).before) s ((expression names e).test free).cond v free ((expression names e).test free).next
+word_tested names call e free s t v listed le h is =
+    (expression_claim names call e).tests free s t.locals v listed le h.locals (subst (λ m. value t.locals m e ≡ Some v) (sym h.outside.memory) is)
 
 after_placed : (names : List Name) (s : State) (t : src.State) (l : Locals) (free : ℕ) → length names ≤ free → ((y : ℕ) → y < free → l y ≡ s.locals y) → At names s t → At names (record s { locals = l }) t
 after_placed names s t l free le same h = at-locals names s t l t.locals (holds-kept names s.locals l t.locals free le same h.locals) h.outside
@@ -81,7 +88,7 @@ set-matches : (names : List Name) (call : Callee) (x : Name) (e : Expr) (s : Sta
 set-matches names call x e s t listed listed' h =
     let q = does call ((expression names e).into (number names x) (length names)) s in
     matches-source names q (value t.locals t.memory e) t (λ v. Goes (src.set_to x v t)) (λ v is.
-    let claim = expression_claim names call e in
+    let claim = (expression_claim names call e).words in
     let sets = claim.into (number names x) (length names) s t.locals v listed' (le_itself (length names)) h.locals (subst (λ m. value t.locals m e ≡ Some v) (sym h.outside.memory) is) in
     matches-from names q (Goes (record s { locals = sets.locals })) (Goes (src.set_to x v t)) sets.runs
     (at-locals names s t sets.locals (source.with_local x v t.locals) (holds-changed names s.locals sets.locals t.locals x v listed sets.value sets.others h.locals) h.outside))
@@ -136,28 +143,28 @@ stackalloc-matches names x n f g s t listed body h =
 
 if-matches : (names : List Name) (call : Callee) (e : Expr) (one two : List Stmt) (g1 g2 : src.State → src.Run) (s : State) (t : src.State) → lists_expression names e ≡ true
     → ((u : State) (v : src.State) → At names u v → AtMatches names (does call one u) (g1 v)) → ((u : State) (v : src.State) → At names u v → AtMatches names (does call two u) (g2 v)) → At names s t
-    → AtMatches names (does call (code (expression names e) (length names) ++ roll-Stmt (Stmt-F.If (NonZero (place ((expression names e).variable) (length names))) one two) ∷ []) s)
+    → AtMatches names (does call (branches ((expression names e).test (length names)) one two) s)
     (with_defined (value t.locals t.memory e) t (λ v. choose (v == 0) (g2 t) (g1 t)))
 if-matches names call e one two g1 g2 s t listed first second h =
-    let flat = expression names e in
     let free = length names in
-    let y : Stmt-F Stmt = Stmt-F.If (NonZero (place flat.variable free)) one two in
-    let q = does call (code flat free ++ roll-Stmt y ∷ []) s in
+    let test = (expression names e).test free in
+    let y : Stmt-F Stmt = Stmt-F.If test.cond one two in
+    let q = does call (test.before ++ roll-Stmt y ∷ []) s in
     matches-source names q (value t.locals t.memory e) t (λ v. choose (v == 0) (g2 t) (g1 t)) (λ v is.
-    let p = word_placed names call e free s t v listed (le_itself free) h is in
+    let p = word_tested names call e free s t v listed (le_itself free) h is in
     let u : State = record s { locals = p.locals } in
     let k = after_placed names s t p.locals free (le_itself free) p.others h in
     matches-from names q (choose (v == 0) (does call two u) (does call one u)) (choose (v == 0) (g2 t) (g1 t))
-    (does-after call (code flat free) (roll-Stmt y ∷ []) s u p.runs ∙ does-one call y u
-    ∙ ap (λ o. with_defined o u (λ v. choose (v == 0) (does call two u) (does call one u))) p.value)
+    (does-after call test.before (roll-Stmt y ∷ []) s u p.runs ∙ does-one call y u
+    ∙ ap (λ o. with_defined o u (λ v. choose (v == 0) (does call two u) (does call one u))) p.word)
     (matches-choose (At names) Out (v == 0) (does call two u) (does call one u) (g2 t) (g1 t) (λ e. second u t k) (λ e. first u t k)))
 
 test-word : (names : List Name) (call : Callee) (e : Expr) → lists_expression names e ≡ true → (s : State) (t : src.State) (v : ℕ) → At names s t → value t.locals t.memory e ≡ Some v
-    → Tested names (does call (code (expression names e) (length names))) (λ u. u.locals (place ((expression names e).variable) (length names))) s t v
+    → Tested names (does call ((expression names e).test (length names)).before) (λ u. test_word ((expression names e).test (length names)).cond u.locals) s t v
 test-word names call e listed s t v h is =
     let free = length names in
-    let p = word_placed names call e free s t v listed (le_itself free) h is in
-    record { after = record s { locals = p.locals }; runs = p.runs; word = p.value; related = after_placed names s t p.locals free (le_itself free) p.others h; fuel = refl }
+    let p = word_tested names call e free s t v listed (le_itself free) h is in
+    record { after = record s { locals = p.locals }; runs = p.runs; word = p.word; related = after_placed names s t p.locals free (le_itself free) p.others h; fuel = refl }
 
 call-matches : (fs : List Func) (names : List Name) (q : Callee) (p : src.Callee) → CalleesFit fs q p → (place : ℕ) (xs : List Name) (callee : Name) (es : List Expr) (s : State) (t : src.State)
     → lists_names names xs ≡ true → lists_expressions names es ≡ true → layer_faults fs (Cmd-F.Call place xs callee es) ≡ [] → At names s t
@@ -279,15 +286,14 @@ layer fs names q p fit (Cmd-F.While e body) listed none s t h =
     let rest = list_all (λ ok. ok) (map (lists_command names) cs) in
     let flat = joined (map (command fs names) cs) in
     let others = in_turn (map (src.run p) cs) in
-    let free = length names in
-    let at_place = place ((expression names e).variable) free in
-    let first = does q (code (expression names e) free) in
+    let test = (expression names e).test (length names) in
+    let first = does q test.before in
     let listed1 = and-first (lists_expression names e) rest listed in
-    matches-from names (does q (roll-Stmt (Stmt-F.Loop (code (expression names e) free) (NonZero at_place) flat) ∷ []) s)
-    (then_do (first s) (λ w. loop w.fuel (λ u. u.locals at_place) (λ u. then_do (does q flat u) first) w))
+    matches-from names (does q (roll-Stmt (Stmt-F.Loop test.before test.cond flat) ∷ []) s)
+    (then_do (first s) (λ w. loop w.fuel (λ u. test_word test.cond u.locals) (λ u. then_do (does q flat u) first) w))
     (loop t.fuel (λ u. value u.locals u.memory e) others t)
-    (does-one q (Stmt-F.Loop (code (expression names e) free) (NonZero at_place) flat) s)
-    (while-matches names first (does q flat) (λ u. u.locals at_place) (λ u. value u.locals u.memory e) others (test-word names q e listed1)
+    (does-one q (Stmt-F.Loop test.before test.cond flat) s)
+    (while-matches names first (does q flat) (λ u. test_word test.cond u.locals) (λ u. value u.locals u.memory e) others (test-word names q e listed1)
     (λ u v k. known-all fs names q p body (and-second (lists_expression names e) rest listed) none u v k) s t h)
 layer fs names q p fit (Cmd-F.Seq body) listed none s t h = known-all fs names q p body listed none s t h
 layer fs names q p fit (Cmd-F.Call place xs callee es) listed none s t h =

@@ -1,5 +1,5 @@
 -- The sizes of the statements of expressions.
-use Rattle.std.proofs.Common.{◌≡◌, ℕ, suc, ◌+◌, ◌-◌, ◌<◌, ◌≤◌, max, Bool, true, ◌&&◌, List, [], ◌∷◌, ◌++◌, map, length, Option, Some, None, refl, sym, ap, subst, arith, pos}
+use Rattle.std.proofs.Common.{◌≡◌, ℕ, suc, ◌+◌, ◌-◌, ◌<◌, ◌≤◌, max, Bool, true, false, if◌then◌else◌, ◌&&◌, List, [], ◌∷◌, ◌++◌, map, length, Option, Some, None, refl, sym, ap, subst, arith, pos}
 use Rattle.std.proofs.lemmas.List.{length-append}
 use Rattle.std.proofs.lemmas.List.Sums.{sum-map, sum_by-cons}
 use Rattle.br_words.specs.declared.size.Size.{Size}
@@ -12,13 +12,17 @@ use Rattle.br_source_meaning.specs.Values.{Name}
 use Rattle.br_measure.specs.Bulk as bulk
 use Rattle.br_measure.specs.Bulk.{expression_bulk, expressions_bulk}
 use Rattle.br_flatimp.specs.declared.program.Operand.TheVariants as operand
-use Rattle.br_flatimp.specs.declared.program.Cond.TheVariants.{NonZero}
+use Rattle.br_flatimp.specs.declared.program.Rel.{Rel}
+use Rattle.br_flatimp.specs.declared.program.Cond.{Cond}
+use Rattle.br_flatimp.specs.declared.program.Cond.TheVariants.{NonZero, Compare}
 use Rattle.br_flatimp.specs.declared.program.Stmt.{Stmt}
 use Rattle.br_flatimp.specs.declared.program.Stmt.TheOpen.{Stmt-F}
 use Rattle.br_flatimp.specs.declared.program.Stmt.TheViews.{roll-Stmt}
 use Rattle.br_flatimp.specs.declared.program.FlatFunc.{FlatFunc}
+use Rattle.br_flatimp.specs.Parts.{test_names}
 use Rattle.br_flatimp.specs.Sizes.{words_for}
-use Rattle.br_flatten.specs.Flatten.{above, number, is_listed, lists_step, lists_expression, lists_expressions, Flat, place, next, code, codes_of, places_of, expression_step, expression}
+use Rattle.br_flatten.specs.Tests.{Test, relation, asks_zero, zero_before, turned, next_turned, negation}
+use Rattle.br_flatten.specs.Flatten.{above, number, is_listed, lists_step, lists_expression, lists_expressions, Flat, place, next, code, codes_of, places_of, compared_test, tested_itself, operation, expression_step, expression}
 use Rattle.br_flatten.specs.Places.{variables_step, expression_variables, expressions_variables}
 use Rattle.br_flatten.proofs.Numbers.{and-first, and-second, number-below}
 use Rattle.br_flatten.proofs.Fine.{Fine, fine-none, fine-append, fine-within, fine-one, fine-if}
@@ -43,7 +47,7 @@ pub record Coded (fs : List FlatFunc) (size weight free : ℕ) (flat : Flat) : T
 pub coded : (fs : List FlatFunc) (n : ℕ) (lists : Bool) (size : ℕ) (vs : List Name) (flat : Flat) → (e : Sized fs n lists size vs flat) → lists ≡ true → (free : ℕ) → n ≤ free → Coded fs size e.weight free flat
 coded fs n lists size vs flat e listed free le = by flat.variable refl
   where
-    by : (o : Option ℕ) → flat.variable ≡ o → Coded fs size e.weight free (record { variable = o; into = flat.into })
+    by : (o : Option ℕ) → flat.variable ≡ o → Coded fs size e.weight free (record flat { variable = o })
     by (Some y) is =
         let below = e.variable y is listed in
         record { body = fine-none fs (free + e.weight) size 0; at = omega (arith, below, le); below = omega (arith, below, le); after = omega arith; grows = omega arith }
@@ -129,67 +133,162 @@ op-sized fs names lists more a b vs ws one two e f op = record {
       let below = c.below in
       let after = c.after in
       let grows = c.grows in
-      let then = next one.variable free in
-      let d = coded fs (length names) more b ws two f (and-second lists more listed) then (omega (arith, le, grows)) in
+      let onward = next one.variable free in
+      let d = coded fs (length names) more b ws two f (and-second lists more listed) onward (omega (arith, le, grows)) in
       let below' = d.below in
       let top = max (suc x) (free + (1 + e.weight + f.weight - 1)) in
-      let y : Stmt-F Stmt = Stmt-F.Op x op (place one.variable free) (operand.Name (place two.variable then)) in
+      let y : Stmt-F Stmt = Stmt-F.Op x op (place one.variable free) (operand.Name (place two.variable onward)) in
       let last = fine-one fs top 1 0 [] y (omega (arith, below, below', after)) (omega arith) (omega arith) refl refl in
-      let rest = fine-append fs top b 1 0 [] [] (code two then) (roll-Stmt y ∷ []) (fine-within fs (then + f.weight) b 0 top b 0 [] (code two then) (omega (arith, after)) (omega arith) (omega arith) d.body) last in
-      fine-within fs top (a + (b + 1)) 0 top (1 + a + b) 0 [] (code one free ++ (code two then ++ roll-Stmt y ∷ [])) (omega arith) (omega arith) (omega arith)
-      (fine-append fs top a (b + 1) 0 [] [] (code one free) (code two then ++ roll-Stmt y ∷ [])
+      let rest = fine-append fs top b 1 0 [] [] (code two onward) (roll-Stmt y ∷ []) (fine-within fs (onward + f.weight) b 0 top b 0 [] (code two onward) (omega (arith, after)) (omega arith) (omega arith) d.body) last in
+      fine-within fs top (a + (b + 1)) 0 top (1 + a + b) 0 [] (code one free ++ (code two onward ++ roll-Stmt y ∷ [])) (omega arith) (omega arith) (omega arith)
+      (fine-append fs top a (b + 1) 0 [] [] (code one free) (code two onward ++ roll-Stmt y ∷ [])
       (fine-within fs (free + e.weight) a 0 top a 0 [] (code one free) (omega arith) (omega arith) (omega arith) c.body) rest);
 }
 
+-- ---- tests
+
+-- a test's statements, the names that it reads, and what is free after it
+pub record Tested (fs : List FlatFunc) (size weight free : ℕ) (t : Test) : Type 0 where
+  pub body : Fine fs (free + weight) size 0 [] t.before
+  pub below : above (test_names t.cond) ≤ free + weight
+  pub after : t.next ≤ free + weight
+
+-- the statements of an expression, and its test
+pub record Measured (fs : List FlatFunc) (n : ℕ) (lists : Bool) (size : ℕ) (vs : List Name) (flat : Flat) : Type 0 where
+  pub words : Sized fs n lists size vs flat
+  pub test : (free : ℕ) → lists ≡ true → n ≤ free → Tested fs size words.weight free (flat.test free)
+
+word-tested : (fs : List FlatFunc) (size weight free : ℕ) (flat : Flat) → Coded fs size weight free flat
+    → Tested fs size weight free (record { before = code flat free; cond = NonZero (place flat.variable free); next = next flat.variable free })
+word-tested fs size weight free flat c = let below = c.below in record { body = c.body; below = omega (arith, below); after = c.after }
+
+itself : (fs : List FlatFunc) (n : ℕ) (lists : Bool) (size : ℕ) (vs : List Name) (variable literal : Option ℕ) (into : ℕ → ℕ → List Stmt)
+    → Sized fs n lists size vs (tested_itself variable literal into) → Measured fs n lists size vs (tested_itself variable literal into)
+itself fs n lists size vs variable literal into e =
+    let flat = tested_itself variable literal into in
+    record { words = e; test = λ free listed le. word-tested fs size e.weight free flat (coded fs n lists size vs flat e listed free le) }
+
+negation-tested : (fs : List FlatFunc) (size weight size' weight' free : ℕ) (t : Test) → size + 1 ≤ size' → weight + 1 ≤ weight' → Tested fs size weight free t → Tested fs size' weight' free (negation t)
+negation-tested fs size weight size' weight' free t more wider e = by t.cond t.next e.below e.after
+  where
+    top : ℕ
+    top = free + weight'
+
+    by : (c : Cond) (after : ℕ) → above (test_names c) ≤ free + weight → after ≤ free + weight
+        → Tested fs size' weight' free (record { before = t.before ++ zero_before c after; cond = turned c after; next = next_turned c after })
+    by (Compare r y z) after below up = record {
+      body = fine-within fs top (size + 1) 0 top size' 0 [] (t.before ++ []) (omega arith) more (omega arith)
+          (fine-append fs top size 1 0 [] [] t.before [] (fine-within fs (free + weight) size 0 top size 0 [] t.before (omega (arith, wider)) (omega arith) (omega arith) e.body) (fine-none fs top 1 0));
+      below = omega (arith, below, wider);
+      after = omega (arith, up, wider);
+    }
+    by (NonZero y) after below up =
+        let last = fine-one fs top 1 0 [] (Stmt-F.Lit after 0) (omega (arith, up, wider)) (omega arith) (omega arith) refl refl in
+        record {
+          body = fine-within fs top (size + 1) 0 top size' 0 [] (t.before ++ roll-Stmt (Stmt-F.Lit after 0) ∷ []) (omega arith) more (omega arith)
+              (fine-append fs top size 1 0 [] [] t.before (roll-Stmt (Stmt-F.Lit after 0) ∷ []) (fine-within fs (free + weight) size 0 top size 0 [] t.before (omega (arith, wider)) (omega arith) (omega arith) e.body) last);
+          below = omega (arith, below, up, wider);
+          after = omega (arith, up, wider);
+        }
+
+op-measured : (fs : List FlatFunc) (names : List Name) (lists more : Bool) (a b : ℕ) (vs ws : List Name) (one two : Flat) → Measured fs (length names) lists a vs one → Measured fs (length names) more b ws two → (op : BinOp)
+    → Measured fs (length names) (lists && more) (1 + a + b) (vs ++ ws) (expression_step names (Expr-F.Op op one two))
+unfolding op-sized
+op-measured fs names lists more a b vs ws one two e f op = record {
+  words = whole;
+  test = λ free listed le. by (asks_zero op two.literal) (relation op) free listed le;
+}
+  where
+    whole : Sized fs (length names) (lists && more) (1 + a + b) (vs ++ ws) (expression_step names (Expr-F.Op op one two))
+    whole = op-sized fs names lists more a b vs ws one two e.words f.words op
+
+    by : (z : Bool) (o : Option Rel) (free : ℕ) → (lists && more) ≡ true → length names ≤ free
+        → Tested fs (1 + a + b) (1 + e.words.weight + f.words.weight) free (if z then negation (one.test free) else compared_test o (operation op one two) one two free)
+    by true o free listed le =
+        negation-tested fs a e.words.weight (1 + a + b) (1 + e.words.weight + f.words.weight) free (one.test free) (omega arith) (omega arith) (e.test free (and-first lists more listed) le)
+    by false None free listed le =
+        let flat = expression_step names (Expr-F.Op op one two) in
+        word-tested fs (1 + a + b) whole.weight free flat (coded fs (length names) (lists && more) (1 + a + b) (vs ++ ws) flat whole listed free le)
+    by false (Some r) free listed le =
+        let c = coded fs (length names) lists a vs one e.words (and-first lists more listed) free le in
+        let below = c.below in
+        let after = c.after in
+        let grows = c.grows in
+        let onward = next one.variable free in
+        let d = coded fs (length names) more b ws two f.words (and-second lists more listed) onward (omega (arith, le, grows)) in
+        let below' = d.below in
+        let after' = d.after in
+        let top = free + (1 + e.words.weight + f.words.weight) in
+        record {
+          body = fine-within fs top (a + b) 0 top (1 + a + b) 0 [] (code one free ++ code two onward) (omega arith) (omega arith) (omega arith)
+              (fine-append fs top a b 0 [] [] (code one free) (code two onward)
+              (fine-within fs (free + e.words.weight) a 0 top a 0 [] (code one free) (omega arith) (omega arith) (omega arith) c.body)
+              (fine-within fs (onward + f.words.weight) b 0 top b 0 [] (code two onward) (omega (arith, after)) (omega arith) (omega arith) d.body));
+          below = omega (arith, below, below', after);
+          after = omega (arith, after, after');
+        }
+
 ite-sized : (fs : List FlatFunc) (names : List Name) (tests lists more : Bool) (c a b : ℕ) (us vs ws : List Name) (test one two : Flat)
-    → Sized fs (length names) tests c us test → Sized fs (length names) lists a vs one → Sized fs (length names) more b ws two
+    → Measured fs (length names) tests c us test → Sized fs (length names) lists a vs one → Sized fs (length names) more b ws two
     → Sized fs (length names) (tests && (lists && more)) (1 + c + a + b) (us ++ (vs ++ ws)) (expression_step names (Expr-F.Ite test one two))
 ite-sized fs names tests lists more c a b us vs ws test one two g e f = record {
-  weight = 1 + g.weight + e.weight + f.weight;
+  weight = 1 + g.words.weight + e.weight + f.weight;
   split =
-      let split = g.split in let split' = e.split in let split'' = f.split in
+      let split = g.words.split in let split' = e.split in let split'' = f.split in
       let len = length-append us (vs ++ ws) in let len' = length-append vs ws in omega (arith, split, split', split'', len, len');
   variable = λ y e listed. none_is_not y e;
   some = λ e. omega arith;
   into = λ x free listed le.
       let rest = and-second tests (lists && more) listed in
-      let k = coded fs (length names) tests c us test g (and-first tests (lists && more) listed) free le in
+      let t = test.test free in
+      let k = g.test free (and-first tests (lists && more) listed) le in
       let below = k.below in
-      let top = max (suc x) (free + (1 + g.weight + e.weight + f.weight - 1)) in
+      let top = max (suc x) (free + (1 + g.words.weight + e.weight + f.weight - 1)) in
       let A = one.into x free in
       let B = two.into x free in
-      let y : Stmt-F Stmt = Stmt-F.If (NonZero (place test.variable free)) A B in
+      let y : Stmt-F Stmt = Stmt-F.If t.cond A B in
       let first = fine-within fs (max (suc x) (free + (e.weight - 1))) a 0 top a 0 [] A (omega arith) (omega arith) (omega arith) (e.into x free (and-first lists more rest) le) in
       let second = fine-within fs (max (suc x) (free + (f.weight - 1))) b 0 top b 0 [] B (omega arith) (omega arith) (omega arith) (f.into x free (and-second lists more rest) le) in
-      let last = fine-if fs top a b 0 [] [] (place test.variable free) A B (omega (arith, below)) first second in
-      fine-within fs top (c + (1 + a + b)) 0 top (1 + c + a + b) 0 [] (code test free ++ roll-Stmt y ∷ []) (omega arith) (omega arith) (omega arith)
-      (fine-append fs top c (1 + a + b) 0 [] [] (code test free) (roll-Stmt y ∷ [])
-      (fine-within fs (free + g.weight) c 0 top c 0 [] (code test free) (omega arith) (omega arith) (omega arith) k.body) last);
+      let last = fine-if fs top a b 0 [] [] t.cond A B (omega (arith, below)) first second in
+      fine-within fs top (c + (1 + a + b)) 0 top (1 + c + a + b) 0 [] (t.before ++ roll-Stmt y ∷ []) (omega arith) (omega arith) (omega arith)
+      (fine-append fs top c (1 + a + b) 0 [] [] t.before (roll-Stmt y ∷ [])
+      (fine-within fs (free + g.words.weight) c 0 top c 0 [] t.before (omega arith) (omega arith) (omega arith) k.body) last);
 }
 
 -- ---- every expression
 
 abbrev pub ExpressionSized : List FlatFunc → List Name → Expr → Type 0
-ExpressionSized fs names e = Sized fs (length names) (lists_expression names e) (expression_bulk e) (expression_variables e) (expression names e)
+ExpressionSized fs names e = Measured fs (length names) (lists_expression names e) (expression_bulk e) (expression_variables e) (expression names e)
 
 abbrev Known : List FlatFunc → List Name → Type 0
 Known fs names = (e : Expr) × ExpressionSized fs names e
 
 abbrev LayerSized : List FlatFunc → List Name → Expr-F Expr → Type 0
 LayerSized fs names y =
-    Sized fs (length names) (lists_step names (map-Expr Expr Bool (lists_expression names) y)) (bulk.expression_step (map-Expr Expr ℕ expression_bulk y))
+    Measured fs (length names) (lists_step names (map-Expr Expr Bool (lists_expression names) y)) (bulk.expression_step (map-Expr Expr ℕ expression_bulk y))
     (variables_step (map-Expr Expr (List Name) expression_variables y)) (expression_step names (map-Expr Expr Flat (expression names) y))
 
 layer : (fs : List FlatFunc) (names : List Name) (y : Expr-F (Known fs names)) → LayerSized fs names (map-Expr (Known fs names) Expr (λ e. e.0) y)
-layer fs names (Expr-F.Literal n) = literal-sized fs names n
-layer fs names (Expr-F.Var x) = variable-sized fs names x
-layer fs names (Expr-F.Load size a) = load-sized fs names (lists_expression names a.0) (expression_bulk a.0) (expression_variables a.0) (expression names a.0) a.1 size
-layer fs names (Expr-F.Table size bytes i) = table-sized fs names (lists_expression names i.0) (expression_bulk i.0) (expression_variables i.0) (expression names i.0) i.1 size bytes
+layer fs names (Expr-F.Literal n) =
+    itself fs (length names) true 1 [] None (Some n) (λ x free. roll-Stmt (Stmt-F.Lit x n) ∷ []) (literal-sized fs names n)
+layer fs names (Expr-F.Var x) =
+    itself fs (length names) (is_listed names x) 1 (x ∷ []) (Some (number names x)) None (λ z free. roll-Stmt (Stmt-F.Copy z (number names x)) ∷ []) (variable-sized fs names x)
+layer fs names (Expr-F.Load size a) =
+    let flat = expression_step names (Expr-F.Load size (expression names a.0)) in
+    itself fs (length names) (lists_expression names a.0) (1 + expression_bulk a.0) (expression_variables a.0) None None flat.into
+    (load-sized fs names (lists_expression names a.0) (expression_bulk a.0) (expression_variables a.0) (expression names a.0) a.1.words size)
+layer fs names (Expr-F.Table size bytes i) =
+    let flat = expression_step names (Expr-F.Table size bytes (expression names i.0)) in
+    itself fs (length names) (lists_expression names i.0) (1 + words_for (length bytes) + expression_bulk i.0) (expression_variables i.0) None None flat.into
+    (table-sized fs names (lists_expression names i.0) (expression_bulk i.0) (expression_variables i.0) (expression names i.0) i.1.words size bytes)
 layer fs names (Expr-F.Op op a b) =
-    op-sized fs names (lists_expression names a.0) (lists_expression names b.0) (expression_bulk a.0) (expression_bulk b.0) (expression_variables a.0) (expression_variables b.0) (expression names a.0) (expression names b.0) a.1 b.1 op
+    op-measured fs names (lists_expression names a.0) (lists_expression names b.0) (expression_bulk a.0) (expression_bulk b.0) (expression_variables a.0) (expression_variables b.0) (expression names a.0) (expression names b.0) a.1 b.1 op
 layer fs names (Expr-F.Ite c a b) =
-    ite-sized fs names (lists_expression names c.0) (lists_expression names a.0) (lists_expression names b.0) (expression_bulk c.0) (expression_bulk a.0) (expression_bulk b.0)
-    (expression_variables c.0) (expression_variables a.0) (expression_variables b.0) (expression names c.0) (expression names a.0) (expression names b.0) c.1 a.1 b.1
+    let flat = expression_step names (Expr-F.Ite (expression names c.0) (expression names a.0) (expression names b.0)) in
+    itself fs (length names) (lists_expression names c.0 && (lists_expression names a.0 && lists_expression names b.0)) (1 + expression_bulk c.0 + expression_bulk a.0 + expression_bulk b.0)
+    (expression_variables c.0 ++ (expression_variables a.0 ++ expression_variables b.0)) None None flat.into
+    (ite-sized fs names (lists_expression names c.0) (lists_expression names a.0) (lists_expression names b.0) (expression_bulk c.0) (expression_bulk a.0) (expression_bulk b.0)
+    (expression_variables c.0) (expression_variables a.0) (expression_variables b.0) (expression names c.0) (expression names a.0) (expression names b.0) c.1 a.1.words b.1.words)
 
 pub expression_sized : (fs : List FlatFunc) (names : List Name) (e : Expr) → ExpressionSized fs names e
 expression_sized fs names = ind-Expr (ExpressionSized fs names) (λ x y is.
@@ -201,10 +300,10 @@ expression_sized fs names = ind-Expr (ExpressionSized fs names) (λ x y is.
     let size1 = bulk.expression_step (map-Expr Expr ℕ expression_bulk x) in
     let vs1 = variables_step (map-Expr Expr (List Name) expression_variables x) in
     let flat1 = expression_step names (map-Expr Expr Flat (expression names) x) in
-    let one = subst (λ b. Sized fs (length names) b size1 vs1 flat1) (sym lists) step in
-    let two = subst (λ s. Sized fs (length names) (lists_expression names (roll-Expr x)) s vs1 flat1) (sym size) one in
-    let three = subst (λ v. Sized fs (length names) (lists_expression names (roll-Expr x)) (expression_bulk (roll-Expr x)) v flat1) (sym vs) two in
-    subst (λ f. Sized fs (length names) (lists_expression names (roll-Expr x)) (expression_bulk (roll-Expr x)) (expression_variables (roll-Expr x)) f) (sym flat) three)
+    let one = subst (λ b. Measured fs (length names) b size1 vs1 flat1) (sym lists) step in
+    let two = subst (λ s. Measured fs (length names) (lists_expression names (roll-Expr x)) s vs1 flat1) (sym size) one in
+    let three = subst (λ v. Measured fs (length names) (lists_expression names (roll-Expr x)) (expression_bulk (roll-Expr x)) v flat1) (sym vs) two in
+    subst (λ f. Measured fs (length names) (lists_expression names (roll-Expr x)) (expression_bulk (roll-Expr x)) (expression_variables (roll-Expr x)) f) (sym flat) three)
 
 -- ---- operands in turn
 
@@ -227,7 +326,7 @@ operands fs names [] = record {
   count = λ free. refl;
 }
 operands fs names (e ∷ es) =
-    let one = expression_sized fs names e in
+    let one = (expression_sized fs names e).words in
     let rest = operands fs names es in
     let n = length names in
     let lists = lists_expression names e in
@@ -242,15 +341,15 @@ operands fs names (e ∷ es) =
           let c = coded fs n lists size vs flat one (and-first lists more listed) free le in
           let after = c.after in
           let grows = c.grows in
-          let then = next flat.variable free in
+          let onward = next flat.variable free in
           let top = free + (one.weight + rest.weight) in
           let others = expressions_bulk es in
-          let body = codes_of (map (expression names) es) then in
+          let body = codes_of (map (expression names) es) onward in
           let whole = sum-more e es in
           fine-within fs top (size + others) 0 top (expressions_bulk (e ∷ es)) 0 [] (code flat free ++ body) (omega arith) (omega (arith, whole)) (omega arith)
           (fine-append fs top size others 0 [] [] (code flat free) body
           (fine-within fs (free + one.weight) size 0 top size 0 [] (code flat free) (omega arith) (omega arith) (omega arith) c.body)
-          (fine-within fs (then + rest.weight) others 0 top others 0 [] body (omega (arith, after)) (omega arith) (omega arith) (rest.body then (and-second lists more listed) (omega (arith, le, grows)))));
+          (fine-within fs (onward + rest.weight) others 0 top others 0 [] body (omega (arith, after)) (omega arith) (omega arith) (rest.body onward (and-second lists more listed) (omega (arith, le, grows)))));
       places = λ free listed le.
           let c = coded fs n lists size vs flat one (and-first lists more listed) free le in
           let after = c.after in

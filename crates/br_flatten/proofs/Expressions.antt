@@ -1,15 +1,15 @@
 -- The statements of an expression set a name to its word where it has one, and change no other name but the
 -- temporaries that were free.
-use Rattle.std.proofs.Common.{◌≡◌, ◌≢◌, inl, inr, ℕ, suc, ◌<◌, ◌≤◌, ◌==◌, ◌&&◌, Bool, true, false, if◌then◌else◌, List, [], ◌∷◌, ◌++◌, length, Option, Some, None, refl, sym, ap, subst, ◌∙◌, arith, pos}
+use Rattle.std.proofs.Common.{◌≡◌, ◌≢◌, inl, inr, ℕ, suc, ◌<◌, ◌≤◌, ◌==◌, ◌&&◌, Bool, true, false, if◌then◌else◌, List, [], ◌∷◌, ◌++◌, length, Option, Some, None, refl, sym, ap, subst, ◌∙◌, append_assoc, arith, pos}
 use Rattle.std.specs.Option.{option_map, option_and_then}
 use Rattle.br_words.specs.declared.size.Size.{Size}
 use Rattle.br_words.specs.declared.operation.BinOp.{BinOp}
 use Rattle.br_words.specs.Size.{size_of}
-use Rattle.br_words.specs.Words.{value_of_op}
+use Rattle.br_words.specs.Words.{flag, value_of_op}
 use Rattle.br_bytes.specs.Number.{number_of}
 use Rattle.br_bytes.specs.Memory.{Memory, get_number}
 use Rattle.br_bytes.specs.Buffers.{table_number}
-use Rattle.br_bytes.specs.Runs.{Goes, Ends, then_do, with_defined, choose}
+use Rattle.br_bytes.specs.Runs.{Goes, with_defined, choose}
 use Rattle.br_syntax.specs.declared.program.Expr.{Expr, map-Expr}
 use Rattle.br_syntax.specs.declared.program.Expr.TheOpen.{Expr-F}
 use Rattle.br_syntax.specs.declared.program.Expr.TheViews.{roll-Expr}
@@ -17,39 +17,19 @@ use Rattle.br_syntax.specs.declared.program.Expr.TheFolds.{fold-roll-Expr, ind-E
 use Rattle.br_source_meaning.specs.Values as source
 use Rattle.br_source_meaning.specs.Values.{Name, value, value_step, both, selected}
 use Rattle.br_flatimp.specs.declared.program.Operand.TheVariants as operand
+use Rattle.br_flatimp.specs.declared.program.Rel.{Rel}
 use Rattle.br_flatimp.specs.declared.program.Cond.TheVariants.{NonZero}
-use Rattle.br_flatimp.specs.declared.program.Stmt.{Stmt, map-Stmt}
+use Rattle.br_flatimp.specs.declared.program.Stmt.{Stmt}
 use Rattle.br_flatimp.specs.declared.program.Stmt.TheOpen.{Stmt-F}
 use Rattle.br_flatimp.specs.declared.program.Stmt.TheViews.{roll-Stmt}
-use Rattle.br_flatimp.specs.declared.program.Stmt.TheFolds.{fold-roll-Stmt}
-use Rattle.br_flatimp.specs.Values.{Locals, with_local, moved}
+use Rattle.br_flatimp.specs.Values.{Locals, with_local, moved, compared}
 use Rattle.br_flatimp.specs.Matches.{IsSameDefined}
-use Rattle.br_flatimp.specs.Runs.{State, Run, Callee, forgets_none, set_to, statement_step, run, run_all}
-use Rattle.br_flatten.specs.Flatten.{number, is_listed, lists_step, lists_expression, Flat, place, next, unless_variable, code, expression_step, expression}
+use Rattle.br_flatimp.specs.Runs.{State, Run, Callee, set_to}
+use Rattle.br_flatten.specs.Tests.{relation, asks_zero, negation}
+use Rattle.br_flatten.specs.Flatten.{number, is_listed, lists_step, lists_expression, Flat, place, next, unless_variable, code, compared_test, tested_itself, operation, expression_step, expression}
 use Rattle.br_flatten.proofs.Numbers.{and-first, and-second, number-below, with-same, with-other, bytes-moved}
-
--- ---- runs in turn
-
-abbrev pub does : Callee → List Stmt → State → Run
-does call = run_all forgets_none call
-
-then-turns : (r : Run) (f g h : State → Run) → ((t : State) → f t ≡ then_do (g t) h) → then_do r f ≡ then_do (then_do r g) h
-then-turns (Goes t) f g h e = e t
-then-turns (Ends end t) f g h e = refl
-
-pub does-append : (call : Callee) (before bs : List Stmt) (s : State) → does call (before ++ bs) s ≡ then_do (does call before s) (does call bs)
-does-append call [] bs s = refl
-does-append call (a ∷ rest) bs s = then-turns (run forgets_none call a s) (does call (rest ++ bs)) (does call rest) (does call bs) (does-append call rest bs)
-
-pub does-after : (call : Callee) (before bs : List Stmt) (s t : State) → does call before s ≡ Goes t → does call (before ++ bs) s ≡ does call bs t
-does-after call before bs s t e = does-append call before bs s ∙ ap (λ r. then_do r (does call bs)) e
-
-then-goes : (r : Run) → then_do r Goes ≡ r
-then-goes (Goes t) = refl
-then-goes (Ends end t) = refl
-
-pub does-one : (call : Callee) (y : Stmt-F Stmt) (s : State) → does call (roll-Stmt y ∷ []) s ≡ statement_step forgets_none call (map-Stmt Stmt (State → Run) (run forgets_none call) y) s
-does-one call y s = then-goes (run forgets_none call (roll-Stmt y) s) ∙ ap (λ f. f s) (fold-roll-Stmt (State → Run) (statement_step forgets_none call) y)
+use Rattle.br_flatten.proofs.Turns.{does, does-after, does-one}
+use Rattle.br_flatten.proofs.Comparisons.{relation-value, zero_test, Tests, negation-tests}
 
 -- ---- what holds of an expression
 
@@ -73,8 +53,10 @@ pub record Placed (f : State → Run) (s : State) (at v free after : ℕ) : Type
   pub below : at < after
   pub grows : free ≤ after
 
+-- what holds of the statements of a word
 pub record Claim (names : List Name) (call : Callee) (lists : Bool) (flat : Flat) (word : source.Locals → Memory → Option ℕ) : Type 0 where
   pub variable : (y : ℕ) → flat.variable ≡ Some y → lists ≡ true → y < length names
+  pub literal : (n : ℕ) → flat.literal ≡ Some n → (m : source.Locals) (k : Memory) → word m k ≡ Some n
   pub variable_word : (y : ℕ) → flat.variable ≡ Some y → lists ≡ true → (s : State) (m : source.Locals) (v : ℕ) → Holds names s.locals m → word m s.memory ≡ Some v → s.locals y ≡ Some v
   pub into : (x free : ℕ) (s : State) (m : source.Locals) (v : ℕ) → lists ≡ true → length names ≤ free → Holds names s.locals m → word m s.memory ≡ Some v → Sets (does call (flat.into x free)) s x v free
 
@@ -111,6 +93,7 @@ none_is_not y e = absurd (cc e)
 literal-claim : (names : List Name) (call : Callee) (n : ℕ) → Claim names call true (expression_step names (Expr-F.Literal n)) (λ m k. Some n)
 literal-claim names call n = record {
   variable = λ y e listed. none_is_not y e;
+  literal = λ k e m memory. e;
   variable_word = λ y e listed. none_is_not y e;
   into = λ x free s m v listed le holds is.
       let same : n ≡ v = cc is in
@@ -128,6 +111,7 @@ there a b v (inr same) is = same ∙ is
 variable-claim : (names : List Name) (call : Callee) (z : Name) → Claim names call (is_listed names z) (expression_step names (Expr-F.Var z)) (λ m k. m z)
 variable-claim names call z = record {
   variable = λ y e listed. let same : number names z ≡ y = cc e in subst (λ q. q < length names) same (number-below names z listed);
+  literal = λ k e m memory. none_is_not k e;
   variable_word = λ y e listed s m v holds is. let same : number names z ≡ y = cc e in subst (λ q. s.locals q ≡ Some v) same (there (s.locals (number names z)) (m z) v (holds z listed) is);
   into = λ x free s m v listed le holds is.
       let word = there (s.locals (number names z)) (m z) v (holds z listed) is in
@@ -149,6 +133,7 @@ load-claim : (names : List Name) (call : Callee) (lists : Bool) (flat : Flat) (w
     → Claim names call lists (expression_step names (Expr-F.Load size flat)) (λ m k. option_and_then (λ a. get_number k a (size_of size)) (word m k))
 load-claim names call lists flat word claim size = record {
   variable = λ y e listed. none_is_not y e;
+  literal = λ k e m memory. none_is_not k e;
   variable_word = λ y e listed. none_is_not y e;
   into = λ x free s m v listed le holds is.
       let two = then_there (λ a. get_number s.memory a (size_of size)) (word m s.memory) v is in
@@ -166,6 +151,7 @@ table-claim : (names : List Name) (call : Callee) (lists : Bool) (flat : Flat) (
     → Claim names call lists (expression_step names (Expr-F.Table size bytes flat)) (λ m k. option_and_then (λ i. table_number bytes i (size_of size)) (word m k))
 table-claim names call lists flat word claim size bytes = record {
   variable = λ y e listed. none_is_not y e;
+  literal = λ k e m memory. none_is_not k e;
   variable_word = λ y e listed. none_is_not y e;
   into = λ x free s m v listed le holds is.
       let two = then_there (λ i. table_number bytes i (size_of size)) (word m s.memory) v is in
@@ -190,32 +176,130 @@ both_there f None p v e = absurd (cc e)
 both_there f (Some a) None v e = absurd (cc e)
 both_there f (Some a) (Some b) v e = record { one = a; two = b; first = refl; second = refl; made = cc e }
 
+-- two operands in turn, whose words an operation makes one word of
+record Operands (f : State → Run) (s : State) (made : ℕ → ℕ → ℕ) (first second v free after : ℕ) : Type 0 where
+  locals : Locals
+  one : ℕ
+  two : ℕ
+  runs : f s ≡ Goes (record s { locals = locals })
+  value : locals first ≡ Some one
+  other : locals second ≡ Some two
+  is_made : made one two ≡ v
+  others : (y : ℕ) → y < free → locals y ≡ s.locals y
+  below : first < after
+  below' : second < after
+  grows : free ≤ after
+
+operands : (names : List Name) (call : Callee) (lists more : Bool) (one two : Flat) (word other : source.Locals → Memory → Option ℕ) → Claim names call lists one word → Claim names call more two other → (op : BinOp)
+    → (free : ℕ) (s : State) (m : source.Locals) (v : ℕ) → (lists && more) ≡ true → length names ≤ free → Holds names s.locals m → both (value_of_op op) (word m s.memory) (other m s.memory) ≡ Some v
+    → Operands (does call (code one free ++ code two (next one.variable free))) s (value_of_op op) (place one.variable free) (place two.variable (next one.variable free)) v free (next two.variable (next one.variable free))
+operands names call lists more one two word other claim claim' op free s m v listed le holds is =
+    let w = both_there (value_of_op op) (word m s.memory) (other m s.memory) v is in
+    let p = placed names call lists one word claim free s m w.one (and-first lists more listed) le holds w.first in
+    let t : State = record s { locals = p.locals } in
+    let grows = p.grows in
+    let below = p.below in
+    let after = next one.variable free in
+    let q = placed names call more two other claim' after t m w.two (and-second lists more listed) (omega (arith, grows, le)) (holds-kept names s.locals p.locals m free le p.others holds) w.second in
+    let grows' = q.grows in
+    record {
+      locals = q.locals;
+      one = w.one;
+      two = w.two;
+      runs = does-after call (code one free) (code two after) s t p.runs ∙ q.runs;
+      value = q.others (place one.variable free) below ∙ p.value;
+      other = q.value;
+      is_made = w.made;
+      others = λ z less. q.others z (omega (arith, less, grows)) ∙ p.others z less;
+      below = omega (arith, below, grows');
+      below' = q.below;
+      grows = omega (arith, grows, grows');
+    }
+
 op-claim : (names : List Name) (call : Callee) (lists more : Bool) (one two : Flat) (word other : source.Locals → Memory → Option ℕ) → Claim names call lists one word → Claim names call more two other → (op : BinOp)
     → Claim names call (lists && more) (expression_step names (Expr-F.Op op one two)) (λ m k. both (value_of_op op) (word m k) (other m k))
 op-claim names call lists more one two word other claim claim' op = record {
   variable = λ y e listed. none_is_not y e;
+  literal = λ k e m memory. none_is_not k e;
   variable_word = λ y e listed. none_is_not y e;
   into = λ x free s m v listed le holds is.
-      let w = both_there (value_of_op op) (word m s.memory) (other m s.memory) v is in
-      let p = placed names call lists one word claim free s m w.one (and-first lists more listed) le holds w.first in
-      let t : State = record s { locals = p.locals } in
-      let grows = p.grows in
-      let below = p.below in
+      let p = operands names call lists more one two word other claim claim' op free s m v listed le holds is in
+      let u : State = record s { locals = p.locals } in
       let after = next one.variable free in
-      let q = placed names call more two other claim' after t m w.two (and-second lists more listed) (omega (arith, grows, le)) (holds-kept names s.locals p.locals m free le p.others holds) w.second in
-      let u : State = record s { locals = q.locals } in
       let first = place one.variable free in
       let second = place two.variable after in
       let y : Stmt-F Stmt = Stmt-F.Op x op first (operand.Name second) in
-      let value : q.locals first ≡ Some w.one = q.others first below ∙ p.value in
-      sets_last (does call (code one free ++ (code two after ++ roll-Stmt y ∷ []))) s q.locals x v free
-      (does-after call (code one free) (code two after ++ roll-Stmt y ∷ []) s t p.runs
-      ∙ does-after call (code two after) (roll-Stmt y ∷ []) t u q.runs ∙ does-one call y u
-      ∙ ap (λ o. with_defined o u (λ a. with_defined (q.locals second) u (λ b. Goes (set_to x (value_of_op op a b) u)))) value
-      ∙ ap (λ o. with_defined o u (λ b. Goes (set_to x (value_of_op op w.one b) u))) q.value
-      ∙ ap (λ r. Goes (set_to x r u)) w.made)
-      (λ z less. q.others z (omega (arith, less, grows)) ∙ p.others z less);
+      sets_last (does call (code one free ++ (code two after ++ roll-Stmt y ∷ []))) s p.locals x v free
+      (ap (λ body. does call body s) (sym (append_assoc (code one free) (code two after) (roll-Stmt y ∷ [])))
+      ∙ does-after call (code one free ++ code two after) (roll-Stmt y ∷ []) s u p.runs ∙ does-one call y u
+      ∙ ap (λ o. with_defined o u (λ a. with_defined (p.locals second) u (λ b. Goes (set_to x (value_of_op op a b) u)))) p.value
+      ∙ ap (λ o. with_defined o u (λ b. Goes (set_to x (value_of_op op p.one b) u))) p.other
+      ∙ ap (λ r. Goes (set_to x r u)) p.is_made)
+      p.others;
 }
+
+-- ---- tests
+
+-- what holds of the statements of a word and of its test
+pub record Claims (names : List Name) (call : Callee) (lists : Bool) (flat : Flat) (word : source.Locals → Memory → Option ℕ) : Type 0 where
+  pub words : Claim names call lists flat word
+  pub tests : (free : ℕ) (s : State) (m : source.Locals) (v : ℕ) → lists ≡ true → length names ≤ free → Holds names s.locals m → word m s.memory ≡ Some v
+      → Tests (does call (flat.test free).before) s (flat.test free).cond v free (flat.test free).next
+
+word-tests : (names : List Name) (call : Callee) (lists : Bool) (flat : Flat) (word : source.Locals → Memory → Option ℕ) → Claim names call lists flat word
+    → (free : ℕ) (s : State) (m : source.Locals) (v : ℕ) → lists ≡ true → length names ≤ free → Holds names s.locals m → word m s.memory ≡ Some v
+    → Tests (does call (code flat free)) s (NonZero (place flat.variable free)) v free (next flat.variable free)
+word-tests names call lists flat word claim free s m v listed le holds is =
+    let p = placed names call lists flat word claim free s m v listed le holds is in
+    let below = p.below in
+    record { locals = p.locals; runs = p.runs; word = p.value; others = p.others; below = omega (arith, below); grows = p.grows }
+
+itself : (names : List Name) (call : Callee) (lists : Bool) (variable literal : Option ℕ) (into : ℕ → ℕ → List Stmt) (word : source.Locals → Memory → Option ℕ)
+    → Claim names call lists (tested_itself variable literal into) word → Claims names call lists (tested_itself variable literal into) word
+itself names call lists variable literal into word claim =
+    record { words = claim; tests = λ free s m v listed le holds is. word-tests names call lists (tested_itself variable literal into) word claim free s m v listed le holds is }
+
+op-claims : (names : List Name) (call : Callee) (lists more : Bool) (one two : Flat) (word other : source.Locals → Memory → Option ℕ) → Claims names call lists one word → Claims names call more two other → (op : BinOp)
+    → Claims names call (lists && more) (expression_step names (Expr-F.Op op one two)) (λ m k. both (value_of_op op) (word m k) (other m k))
+op-claims names call lists more one two word other claim claim' op = record {
+  words = whole;
+  tests = λ free s m v listed le holds is. by (asks_zero op two.literal) refl (relation op) refl free s m v listed le holds is;
+}
+  where
+    whole : Claim names call (lists && more) (expression_step names (Expr-F.Op op one two)) (λ m k. both (value_of_op op) (word m k) (other m k))
+    whole = op-claim names call lists more one two word other claim.words claim'.words op
+
+    by : (b : Bool) → asks_zero op two.literal ≡ b → (o : Option Rel) → relation op ≡ o
+        → (free : ℕ) (s : State) (m : source.Locals) (v : ℕ) → (lists && more) ≡ true → length names ≤ free → Holds names s.locals m → both (value_of_op op) (word m s.memory) (other m s.memory) ≡ Some v
+        → Tests (does call (if b then negation (one.test free) else compared_test o (operation op one two) one two free).before) s
+        (if b then negation (one.test free) else compared_test o (operation op one two) one two free).cond v free
+        (if b then negation (one.test free) else compared_test o (operation op one two) one two free).next
+    by true asks o e free s m v listed le holds is =
+        let w = both_there (value_of_op op) (word m s.memory) (other m s.memory) v is in
+        let z = zero_test op two.literal asks in
+        let t = one.test free in
+        let d = claim.tests free s m w.one (and-first lists more listed) le holds w.first in
+        let zero : w.two ≡ 0 = some_same w.two 0 (sym w.second ∙ claim'.words.literal 0 z.literal m s.memory) in
+        let same : flag (w.one == 0) ≡ v = z.value w.one ∙ ap (value_of_op op w.one) (sym zero) ∙ w.made in
+        subst (λ u. Tests (does call (negation t).before) s (negation t).cond u free (negation t).next) same (negation-tests call s t w.one free d)
+      where
+        some_same : (a b : ℕ) → Some a ≡ Some b → a ≡ b
+        some_same a b e = cc e
+    by false asks None e free s m v listed le holds is =
+        word-tests names call (lists && more) (expression_step names (Expr-F.Op op one two)) (λ m k. both (value_of_op op) (word m k) (other m k)) whole free s m v listed le holds is
+    by false asks (Some r) e free s m v listed le holds is =
+        let p = operands names call lists more one two word other claim.words claim'.words op free s m v listed le holds is in
+        let below = p.below in
+        let below' = p.below' in
+        let second = place two.variable (next one.variable free) in
+        record {
+          locals = p.locals;
+          runs = p.runs;
+          word = ap (λ o. compared r o (p.locals second)) p.value ∙ ap (compared r (Some p.one)) p.other ∙ ap Some (relation-value op r e p.one p.two ∙ p.is_made);
+          others = p.others;
+          below = omega (arith, below, below');
+          grows = p.grows;
+        }
 
 record Chosen (o a b : Option ℕ) (v : ℕ) : Type 0 where
   test : ℕ
@@ -226,23 +310,25 @@ chosen : (o a b : Option ℕ) (v : ℕ) → selected o a b ≡ Some v → Chosen
 chosen None a b v e = absurd (cc e)
 chosen (Some w) a b v e = record { test = w; first = refl; part = e }
 
-ite-claim : (names : List Name) (call : Callee) (tests lists more : Bool) (test one two : Flat) (asked word other : source.Locals → Memory → Option ℕ) → Claim names call tests test asked → Claim names call lists one word → Claim names call more two other
+ite-claim : (names : List Name) (call : Callee) (tests lists more : Bool) (test one two : Flat) (asked word other : source.Locals → Memory → Option ℕ) → Claims names call tests test asked → Claim names call lists one word → Claim names call more two other
     → Claim names call (tests && (lists && more)) (expression_step names (Expr-F.Ite test one two)) (λ m k. selected (asked m k) (word m k) (other m k))
 ite-claim names call tests lists more test one two asked word other claim claim1 claim2 = record {
   variable = λ y e listed. none_is_not y e;
+  literal = λ k e m memory. none_is_not k e;
   variable_word = λ y e listed. none_is_not y e;
   into = λ x free s m v listed le holds is.
       let w = chosen (asked m s.memory) (word m s.memory) (other m s.memory) v is in
       let rest = and-second tests (lists && more) listed in
-      let p = placed names call tests test asked claim free s m w.test (and-first tests (lists && more) listed) le holds w.first in
-      let t : State = record s { locals = p.locals } in
-      let y : Stmt-F Stmt = Stmt-F.If (NonZero (place test.variable free)) (one.into x free) (two.into x free) in
+      let t = test.test free in
+      let p = claim.tests free s m w.test (and-first tests (lists && more) listed) le holds w.first in
+      let u : State = record s { locals = p.locals } in
+      let y : Stmt-F Stmt = Stmt-F.If t.cond (one.into x free) (two.into x free) in
       let kept = holds-kept names s.locals p.locals m free le p.others holds in
-      let runs = does-after call (code test free) (roll-Stmt y ∷ []) s t p.runs ∙ does-one call y t
-      ∙ ap (λ o. with_defined o t (λ v. choose (v == 0) (does call (two.into x free) t) (does call (one.into x free) t))) p.value in
-      by x free s v p.locals p.others (does call (code test free ++ roll-Stmt y ∷ [])) (does call (one.into x free)) (does call (two.into x free)) (w.test == 0) (word m s.memory) (other m s.memory) runs w.part
-      (λ e. claim1.into x free t m v (and-first lists more rest) le kept e)
-      (λ e. claim2.into x free t m v (and-second lists more rest) le kept e);
+      let runs = does-after call t.before (roll-Stmt y ∷ []) s u p.runs ∙ does-one call y u
+      ∙ ap (λ o. with_defined o u (λ v. choose (v == 0) (does call (two.into x free) u) (does call (one.into x free) u))) p.word in
+      by x free s v p.locals p.others (does call (t.before ++ roll-Stmt y ∷ [])) (does call (one.into x free)) (does call (two.into x free)) (w.test == 0) (word m s.memory) (other m s.memory) runs w.part
+      (λ e. claim1.into x free u m v (and-first lists more rest) le kept e)
+      (λ e. claim2.into x free u m v (and-second lists more rest) le kept e);
 }
   where
     lifted : (x free : ℕ) (s : State) (v : ℕ) (l : Locals) → ((y : ℕ) → y < free → l y ≡ s.locals y) → (f g : State → Run) → f s ≡ g (record s { locals = l }) → Sets g (record s { locals = l }) x v free → Sets f s x v free
@@ -257,24 +343,32 @@ ite-claim names call tests lists more test one two asked word other claim claim1
 -- ---- every expression
 
 abbrev pub ExpressionClaim : List Name → Callee → Expr → Type 0
-ExpressionClaim names call e = Claim names call (lists_expression names e) (expression names e) (λ m k. value m k e)
+ExpressionClaim names call e = Claims names call (lists_expression names e) (expression names e) (λ m k. value m k e)
 
 abbrev Known : List Name → Callee → Type 0
 Known names call = (e : Expr) × ExpressionClaim names call e
 
 abbrev LayerClaim : List Name → Callee → Expr-F Expr → Type 0
 LayerClaim names call y =
-    Claim names call (lists_step names (map-Expr Expr Bool (lists_expression names) y)) (expression_step names (map-Expr Expr Flat (expression names) y)) (λ m k. value_step m k (map-Expr Expr (Option ℕ) (value m k) y))
+    Claims names call (lists_step names (map-Expr Expr Bool (lists_expression names) y)) (expression_step names (map-Expr Expr Flat (expression names) y)) (λ m k. value_step m k (map-Expr Expr (Option ℕ) (value m k) y))
 
 layer : (names : List Name) (call : Callee) (y : Expr-F (Known names call)) → LayerClaim names call (map-Expr (Known names call) Expr (λ e. e.0) y)
-layer names call (Expr-F.Literal n) = literal-claim names call n
-layer names call (Expr-F.Var x) = variable-claim names call x
-layer names call (Expr-F.Load size a) = load-claim names call (lists_expression names a.0) (expression names a.0) (λ m k. value m k a.0) a.1 size
-layer names call (Expr-F.Table size bytes i) = table-claim names call (lists_expression names i.0) (expression names i.0) (λ m k. value m k i.0) i.1 size bytes
+layer names call (Expr-F.Literal n) = itself names call true None (Some n) (λ x free. roll-Stmt (Stmt-F.Lit x n) ∷ []) (λ m k. Some n) (literal-claim names call n)
+layer names call (Expr-F.Var x) = itself names call (is_listed names x) (Some (number names x)) None (λ z free. roll-Stmt (Stmt-F.Copy z (number names x)) ∷ []) (λ m k. m x) (variable-claim names call x)
+layer names call (Expr-F.Load size a) =
+    let flat = expression_step names (Expr-F.Load size (expression names a.0)) in
+    itself names call (lists_expression names a.0) None None flat.into (λ m k. option_and_then (λ a. get_number k a (size_of size)) (value m k a.0))
+    (load-claim names call (lists_expression names a.0) (expression names a.0) (λ m k. value m k a.0) a.1.words size)
+layer names call (Expr-F.Table size bytes i) =
+    let flat = expression_step names (Expr-F.Table size bytes (expression names i.0)) in
+    itself names call (lists_expression names i.0) None None flat.into (λ m k. option_and_then (λ i. table_number bytes i (size_of size)) (value m k i.0))
+    (table-claim names call (lists_expression names i.0) (expression names i.0) (λ m k. value m k i.0) i.1.words size bytes)
 layer names call (Expr-F.Op op a b) =
-    op-claim names call (lists_expression names a.0) (lists_expression names b.0) (expression names a.0) (expression names b.0) (λ m k. value m k a.0) (λ m k. value m k b.0) a.1 b.1 op
+    op-claims names call (lists_expression names a.0) (lists_expression names b.0) (expression names a.0) (expression names b.0) (λ m k. value m k a.0) (λ m k. value m k b.0) a.1 b.1 op
 layer names call (Expr-F.Ite c a b) =
-    ite-claim names call (lists_expression names c.0) (lists_expression names a.0) (lists_expression names b.0) (expression names c.0) (expression names a.0) (expression names b.0) (λ m k. value m k c.0) (λ m k. value m k a.0) (λ m k. value m k b.0) c.1 a.1 b.1
+    let flat = expression_step names (Expr-F.Ite (expression names c.0) (expression names a.0) (expression names b.0)) in
+    itself names call (lists_expression names c.0 && (lists_expression names a.0 && lists_expression names b.0)) None None flat.into (λ m k. selected (value m k c.0) (value m k a.0) (value m k b.0))
+    (ite-claim names call (lists_expression names c.0) (lists_expression names a.0) (lists_expression names b.0) (expression names c.0) (expression names a.0) (expression names b.0) (λ m k. value m k c.0) (λ m k. value m k a.0) (λ m k. value m k b.0) c.1 a.1.words b.1.words)
 
 pub expression_claim : (names : List Name) (call : Callee) (e : Expr) → ExpressionClaim names call e
 expression_claim names call = ind-Expr (ExpressionClaim names call) (λ x y is.
@@ -282,6 +376,6 @@ expression_claim names call = ind-Expr (ExpressionClaim names call) (λ x y is.
     let lists = fold-roll-Expr Bool (lists_step names) x in
     let flat = fold-roll-Expr Flat (expression_step names) x in
     let words : (λ m k. value m k (roll-Expr x)) ≡ (λ m k. value_step m k (map-Expr Expr (Option ℕ) (value m k) x)) = λ i m k. fold-roll-Expr (Option ℕ) (value_step m k) x i in
-    let one = subst (λ b. Claim names call b (expression_step names (map-Expr Expr Flat (expression names) x)) (λ m k. value_step m k (map-Expr Expr (Option ℕ) (value m k) x))) (sym lists) step in
-    let two = subst (λ f. Claim names call (lists_expression names (roll-Expr x)) f (λ m k. value_step m k (map-Expr Expr (Option ℕ) (value m k) x))) (sym flat) one in
-    subst (λ w. Claim names call (lists_expression names (roll-Expr x)) (expression names (roll-Expr x)) w) (sym words) two)
+    let one = subst (λ b. Claims names call b (expression_step names (map-Expr Expr Flat (expression names) x)) (λ m k. value_step m k (map-Expr Expr (Option ℕ) (value m k) x))) (sym lists) step in
+    let two = subst (λ f. Claims names call (lists_expression names (roll-Expr x)) f (λ m k. value_step m k (map-Expr Expr (Option ℕ) (value m k) x))) (sym flat) one in
+    subst (λ w. Claims names call (lists_expression names (roll-Expr x)) (expression names (roll-Expr x)) w) (sym words) two)

@@ -5,13 +5,13 @@ use Rattle.std.proofs.lemmas.Grind.{flat_map-append}
 use Rattle.std.proofs.lemmas.List.{append-nil}
 use Rattle.std.proofs.lemmas.List.Sums.{sum-map, sum_by-append}
 use Rattle.std.proofs.lemmas.List.Folds.{list_all-append, list_all-map}
-use Rattle.br_flatimp.specs.declared.program.Cond.TheVariants.{NonZero}
+use Rattle.br_flatimp.specs.declared.program.Cond.{Cond}
 use Rattle.br_flatimp.specs.declared.program.Stmt.{Stmt, map-Stmt}
 use Rattle.br_flatimp.specs.declared.program.Stmt.TheOpen.{Stmt-F}
 use Rattle.br_flatimp.specs.declared.program.Stmt.TheViews.{roll-Stmt}
 use Rattle.br_flatimp.specs.declared.program.Stmt.TheFolds.{fold-roll-Stmt}
 use Rattle.br_flatimp.specs.declared.program.FlatFunc.{FlatFunc}
-use Rattle.br_flatimp.specs.Parts.{written, read, parts, throughout, gathered, statement_names, own_callees}
+use Rattle.br_flatimp.specs.Parts.{written, read, parts, throughout, gathered, statement_names, test_names, own_callees}
 use Rattle.br_flatimp.specs.Sizes.{own_units, added, largest, own_bytes, statement_nest}
 use Rattle.br_flatimp.specs.WellFormed.{values_fit}
 use Rattle.br_flatten.specs.Flatten.{above}
@@ -124,6 +124,13 @@ names-parts A B =
     ∙ ap (λ q. max (above q) (above (flat_map (λ xs. xs) (map statement_names B) ++ []))) (flat_map-map statement_names A)
     ∙ ap (λ q. max (above (flat_map statement_names A)) (above q)) (append-nil (flat_map (λ xs. xs) (map statement_names B)) ∙ flat_map-map statement_names B)
 
+pub test-parts : (test : Cond) (A B : List Stmt)
+    → above (test_names test ++ (flat_map (λ xs. xs) (map statement_names A) ++ (flat_map (λ xs. xs) (map statement_names B) ++ [])))
+    ≡ max (above (test_names test)) (max (above (flat_map statement_names A)) (above (flat_map statement_names B)))
+test-parts test A B =
+    above-append (test_names test) (flat_map (λ xs. xs) (map statement_names A) ++ (flat_map (λ xs. xs) (map statement_names B) ++ []))
+    ∙ ap (max (above (test_names test))) (names-parts A B)
+
 callees-parts : (A B : List Stmt) (gs hs : List ℕ) → flat_map (gathered own_callees) A ≡ gs → flat_map (gathered own_callees) B ≡ hs
     → flat_map (λ xs. xs) (map (gathered own_callees) A) ++ (flat_map (λ xs. xs) (map (gathered own_callees) B) ++ []) ≡ gs ++ hs
 callees-parts A B gs hs e f =
@@ -133,32 +140,32 @@ callees-parts A B gs hs e f =
 values-part : (fs : List FlatFunc) (A : List Stmt) → list_all (throughout (values_fit fs)) A ≡ true → list_all (λ ok. ok) (map (throughout (values_fit fs)) A) ≡ true
 values-part fs A e = list_all-map (λ ok. ok) (throughout (values_fit fs)) A ∙ e
 
-pub fine-if : (fs : List FlatFunc) (top size more deep : ℕ) (gs hs : List ℕ) (p : ℕ) (A B : List Stmt) → p < top → Fine fs top size deep gs A → Fine fs top more deep hs B
-    → Fine fs top (1 + size + more) deep (gs ++ hs) (roll-Stmt (Stmt-F.If (NonZero p) A B) ∷ [])
-fine-if fs top size more deep gs hs p A B below a b =
+pub fine-if : (fs : List FlatFunc) (top size more deep : ℕ) (gs hs : List ℕ) (test : Cond) (A B : List Stmt) → above (test_names test) ≤ top → Fine fs top size deep gs A → Fine fs top more deep hs B
+    → Fine fs top (1 + size + more) deep (gs ++ hs) (roll-Stmt (Stmt-F.If test A B) ∷ [])
+fine-if fs top size more deep gs hs test A B below a b =
     let names1 = a.names in
     let names2 = b.names in
     let units1 = a.units in
     let units2 = b.units in
     let nest1 = a.nest in
     let nest2 = b.nest in
-    fine-one fs top (1 + size + more) deep (gs ++ hs) (Stmt-F.If (NonZero p) A B)
-    (omega (arith, below, names-parts A B, names1, names2)) (omega (arith, units1, units2)) (omega (arith, nest1, nest2))
+    fine-one fs top (1 + size + more) deep (gs ++ hs) (Stmt-F.If test A B)
+    (omega (arith, below, test-parts test A B, names1, names2)) (omega (arith, units1, units2)) (omega (arith, nest1, nest2))
     (callees-parts A B gs hs a.callees b.callees)
     (both (list_all (λ ok. ok) (map (throughout (values_fit fs)) A)) (list_all (λ ok. ok) (map (throughout (values_fit fs)) B) && true) (values-part fs A a.values)
     (both (list_all (λ ok. ok) (map (throughout (values_fit fs)) B)) true (values-part fs B b.values) refl))
 
-pub fine-loop : (fs : List FlatFunc) (top size more deep : ℕ) (gs hs : List ℕ) (p : ℕ) (A B : List Stmt) → p < top → Fine fs top size deep gs A → Fine fs top more deep hs B
-    → Fine fs top (1 + size + more) deep (gs ++ hs) (roll-Stmt (Stmt-F.Loop A (NonZero p) B) ∷ [])
-fine-loop fs top size more deep gs hs p A B below a b =
+pub fine-loop : (fs : List FlatFunc) (top size more deep : ℕ) (gs hs : List ℕ) (test : Cond) (A B : List Stmt) → above (test_names test) ≤ top → Fine fs top size deep gs A → Fine fs top more deep hs B
+    → Fine fs top (1 + size + more) deep (gs ++ hs) (roll-Stmt (Stmt-F.Loop A test B) ∷ [])
+fine-loop fs top size more deep gs hs test A B below a b =
     let names1 = a.names in
     let names2 = b.names in
     let units1 = a.units in
     let units2 = b.units in
     let nest1 = a.nest in
     let nest2 = b.nest in
-    fine-one fs top (1 + size + more) deep (gs ++ hs) (Stmt-F.Loop A (NonZero p) B)
-    (omega (arith, below, names-parts A B, names1, names2)) (omega (arith, units1, units2)) (omega (arith, nest1, nest2))
+    fine-one fs top (1 + size + more) deep (gs ++ hs) (Stmt-F.Loop A test B)
+    (omega (arith, below, test-parts test A B, names1, names2)) (omega (arith, units1, units2)) (omega (arith, nest1, nest2))
     (callees-parts A B gs hs a.callees b.callees)
     (both (list_all (λ ok. ok) (map (throughout (values_fit fs)) A)) (list_all (λ ok. ok) (map (throughout (values_fit fs)) B) && true) (values-part fs A a.values)
     (both (list_all (λ ok. ok) (map (throughout (values_fit fs)) B)) true (values-part fs B b.values) refl))

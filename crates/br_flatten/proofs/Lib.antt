@@ -1,4 +1,6 @@
 pub mod Numbers
+pub mod Turns
+pub mod Comparisons
 pub mod Expressions
 pub mod Pieces
 pub mod Commands

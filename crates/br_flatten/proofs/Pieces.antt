@@ -19,7 +19,8 @@ use Rattle.br_flatimp.specs.Runs.{State, Run, Callee}
 use Rattle.br_flatimp.proofs.Matches.{matches-undefined, matches-then_do, matches-choose, matches-with_fuel, matches-read_device, matches-write_device}
 use Rattle.br_flatten.specs.Flatten.{number, is_listed, lists_names, lists_expression, lists_expressions, place, next, code, codes_of, places_of, read_statements, write_statements, device_statements, expression}
 use Rattle.br_flatten.proofs.Numbers.{and-first, and-second, number-below, number-same, with-same, with-other, bytes-moved, with_bytes-moved}
-use Rattle.br_flatten.proofs.Expressions.{does, does-after, does-one, Holds, holds-kept, placed, expression_claim}
+use Rattle.br_flatten.proofs.Turns.{does, does-after, does-one}
+use Rattle.br_flatten.proofs.Expressions.{Holds, holds-kept, placed, expression_claim}
 
 -- a flat state and a state of the source: each set variable stands in its number's name
 abbrev pub At : List Name → State → src.State → Type 0
@@ -106,7 +107,7 @@ all_placed names call [] free s m vs listed le holds is = record { locals = s.lo
 all_placed names call (e ∷ es) free s m vs listed le holds is =
     let one = then_there (λ v. option_and_then (λ vs. Some (v ∷ vs)) (values m s.memory es)) (value m s.memory e) vs is in
     let two = then_there (λ vs. Some (one.word ∷ vs)) (values m s.memory es) vs one.second in
-    let p = placed names call (lists_expression names e) (expression names e) (λ m k. value m k e) (expression_claim names call e) free s m one.word (and-first (lists_expression names e) (lists_expressions names es) listed) le holds one.first in
+    let p = placed names call (lists_expression names e) (expression names e) (λ m k. value m k e) (expression_claim names call e).words free s m one.word (and-first (lists_expression names e) (lists_expressions names es) listed) le holds one.first in
     let t : State = record s { locals = p.locals } in
     let grows = p.grows in
     let first = place ((expression names e).variable) free in

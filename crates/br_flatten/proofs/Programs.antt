@@ -22,7 +22,8 @@ use Rattle.br_flatimp.proofs.Programs.{matches-returned, matches-seen}
 use Rattle.br_flatten.specs.Flatten.{number, is_listed, lists_names, lists_command, lists_function, callee_number, commands, flat_function, flat_program}
 use Rattle.br_flatten.specs.Meaning.{source_signature, source_meaning}
 use Rattle.br_flatten.proofs.Numbers.{and-first, and-second}
-use Rattle.br_flatten.proofs.Expressions.{does, Holds}
+use Rattle.br_flatten.proofs.Turns.{does}
+use Rattle.br_flatten.proofs.Expressions.{Holds}
 use Rattle.br_flatten.proofs.Pieces.{At, at-locals, holds-set_all}
 use Rattle.br_flatten.proofs.Commands.{faults, joins, none-first, none-second, CalleesFit, commands-match}
 

@@ -1,5 +1,5 @@
 -- The least number above the names in a statement with parts or lists of names.
-use Rattle.std.proofs.Common.{◌≡◌, ℕ, suc, max, List, [], ◌++◌, map, sym, ap, ◌∙◌}
+use Rattle.std.proofs.Common.{◌≡◌, ℕ, suc, max, List, ◌++◌, map, sym, ap, ◌∙◌}
 use Rattle.std.specs.List.{flat_map}
 use Rattle.std.proofs.lemmas.List.{append-nil}
 use Rattle.br_flatimp.specs.declared.program.Cond.{Cond}
@@ -10,19 +10,12 @@ use Rattle.br_flatimp.specs.declared.program.Stmt.TheVariants.{Stackalloc, If, L
 use Rattle.br_flatimp.specs.Parts.{statement_names, test_names}
 use Rattle.br_flatten.specs.Flatten.{above}
 use Rattle.br_flatten.proofs.LeastAbove.{above-append, above_item, flat_map-map}
-use Rattle.br_flatten.proofs.Fine.{joined_names, names-parts}
+use Rattle.br_flatten.proofs.Fine.{joined_names, test-parts}
 
 pub names-stackalloc : (x n : ℕ) (body : List Stmt) → above (statement_names (Stackalloc x n body)) ≡ max (suc x) (above (flat_map statement_names body))
 names-stackalloc x n body =
     ap (λ s. above (statement_names s)) (sym (rolls-Stackalloc x n body)) ∙ ap above (fold-roll-Stmt (List ℕ) joined_names (Stmt-F.Stackalloc x n body))
     ∙ ap (λ q. max (suc x) (above q)) (append-nil (flat_map (λ xs. xs) (map statement_names body)) ∙ flat_map-map statement_names body)
-
-test-parts : (test : Cond) (A B : List Stmt)
-    → above (test_names test ++ (flat_map (λ xs. xs) (map statement_names A) ++ (flat_map (λ xs. xs) (map statement_names B) ++ [])))
-    ≡ max (above (test_names test)) (max (above (flat_map statement_names A)) (above (flat_map statement_names B)))
-test-parts test A B =
-    above-append (test_names test) (flat_map (λ xs. xs) (map statement_names A) ++ (flat_map (λ xs. xs) (map statement_names B) ++ []))
-    ∙ ap (max (above (test_names test))) (names-parts A B)
 
 pub names-if : (test : Cond) (A B : List Stmt) → above (statement_names (If test A B)) ≡ max (above (test_names test)) (max (above (flat_map statement_names A)) (above (flat_map statement_names B)))
 names-if test A B =

@@ -1,9 +1,11 @@
 -- The flat statements of expressions, commands, functions and programs. A variable's number is the place of
 -- its name in a list of names; the numbers from the length of that list on are temporaries. Each word of an
 -- expression goes to a temporary or straight to the variable that is set, and a variable is used where it is.
+-- A comparison that is tested is no word, but what the test asks.
 use Rattle.std.specs.Prelude.{ℕ, suc, max, Bool, true, false, ◌||◌, ◌&&◌, List, [], ◌∷◌, ◌++◌, map, length, Option, Some, None, pos, if◌then◌else◌, codes}
 use Rattle.std.specs.List.{flat_map, list_all}
 use Rattle.std.specs.Str.{bytes_eq}
+use Rattle.br_words.specs.declared.operation.BinOp.{BinOp}
 use Rattle.br_syntax.specs.declared.program.Expr.{Expr}
 use Rattle.br_syntax.specs.declared.program.Expr.TheOpen.{Expr-F}
 use Rattle.br_syntax.specs.declared.program.Expr.TheFolds.{fold-Expr}
@@ -13,12 +15,14 @@ use Rattle.br_syntax.specs.declared.program.Cmd.TheFolds.{fold-Cmd}
 use Rattle.br_syntax.specs.declared.program.Func.{Func}
 use Rattle.br_source_meaning.specs.Values.{Name}
 use Rattle.br_flatimp.specs.declared.program.Operand.TheVariants as operand
-use Rattle.br_flatimp.specs.declared.program.Cond.TheVariants.{NonZero}
+use Rattle.br_flatimp.specs.declared.program.Rel.{Rel}
+use Rattle.br_flatimp.specs.declared.program.Cond.TheVariants.{NonZero, Compare}
 use Rattle.br_flatimp.specs.declared.program.Stmt.{Stmt}
 use Rattle.br_flatimp.specs.declared.program.Stmt.TheOpen.{Stmt-F}
 use Rattle.br_flatimp.specs.declared.program.Stmt.TheViews.{roll-Stmt}
 use Rattle.br_flatimp.specs.declared.program.FlatFunc.{FlatFunc}
 use Rattle.br_flatimp.specs.Parts.{statement_names}
+use Rattle.br_flatten.specs.Tests.{Test, relation, asks_zero, negation}
 
 -- ---- names
 
@@ -75,8 +79,12 @@ lists_function names f = lists_names names f.args && (lists_names names f.result
 pub record Flat : Type 0 where
   -- the number of the variable that it is, where it is one
   pub variable : Option ℕ
+  -- the literal that it is, where it is one
+  pub literal : Option ℕ
   -- the statements that set a name to its word, where the temporaries from a number on are free
   pub into : ℕ → ℕ → List Stmt
+  -- the test that holds where its word is not 0, where the temporaries from a number on are free
+  pub test : ℕ → Test
 
 -- where the word of an operand stands: in its variable, or in the first free temporary
 abbrev pub place : Option ℕ → ℕ → ℕ
@@ -96,30 +104,58 @@ unless_variable None body = body
 abbrev pub code : Flat → ℕ → List Stmt
 code e free = unless_variable e.variable (e.into free (suc free))
 
+-- a test whether the word of an operand is 0
+abbrev pub word_test : Option ℕ → (ℕ → ℕ → List Stmt) → ℕ → Test
+word_test variable into free = record {
+  before = unless_variable variable (into free (suc free));
+  cond = NonZero (place variable free);
+  next = next variable free;
+}
+
+-- a test that compares two operands
+abbrev pub comparison : Rel → Flat → Flat → ℕ → Test
+comparison r a b free = record {
+  before = code a free ++ code b (next a.variable free);
+  cond = Compare r (place a.variable free) (place b.variable (next a.variable free));
+  next = next b.variable (next a.variable free);
+}
+
+-- an operation as a test, by how it compares its words
+abbrev pub compared_test : Option Rel → (ℕ → ℕ → List Stmt) → Flat → Flat → ℕ → Test
+compared_test None into a b = word_test None into
+compared_test (Some r) into a b = comparison r a b
+
+abbrev pub operation_test : BinOp → (ℕ → ℕ → List Stmt) → Flat → Flat → ℕ → Test
+operation_test op into a b free =
+    if asks_zero op b.literal then negation (a.test free) else compared_test (relation op) into a b free
+
+-- the statements of a test with a part for each answer
+abbrev pub branches : Test → List Stmt → List Stmt → List Stmt
+branches t first second = t.before ++ roll-Stmt (Stmt-F.If t.cond first second) ∷ []
+
+-- an expression whose word itself is tested
+abbrev pub tested_itself : Option ℕ → Option ℕ → (ℕ → ℕ → List Stmt) → Flat
+tested_itself variable literal into =
+    record { variable = variable; literal = literal; into = into; test = word_test variable into }
+
+abbrev pub operation : BinOp → Flat → Flat → ℕ → ℕ → List Stmt
+operation op a b x free =
+    code a free ++ (code b (next a.variable free)
+    ++ roll-Stmt (Stmt-F.Op x op (place a.variable free) (operand.Name (place b.variable (next a.variable free)))) ∷ [])
+
 -- an expression, given the statements of its parts
 abbrev pub expression_step : List Name → Expr-F Flat → Flat
-expression_step names (Expr-F.Literal n) =
-    record { variable = None; into = λ x free. roll-Stmt (Stmt-F.Lit x n) ∷ [] }
+expression_step names (Expr-F.Literal n) = tested_itself None (Some n) (λ x free. roll-Stmt (Stmt-F.Lit x n) ∷ [])
 expression_step names (Expr-F.Var y) =
-    record { variable = Some (number names y); into = λ x free. roll-Stmt (Stmt-F.Copy x (number names y)) ∷ [] }
-expression_step names (Expr-F.Load size a) = record {
-  variable = None;
-  into = λ x free. code a free ++ roll-Stmt (Stmt-F.Load x size (place a.variable free) (pos 0)) ∷ [];
-}
-expression_step names (Expr-F.Table size bytes i) = record {
-  variable = None;
-  into = λ x free. code i free ++ roll-Stmt (Stmt-F.Table x size bytes (place i.variable free)) ∷ [];
-}
-expression_step names (Expr-F.Op op a b) = record {
-  variable = None;
-  into = λ x free. code a free ++ (code b (next a.variable free)
-      ++ roll-Stmt (Stmt-F.Op x op (place a.variable free) (operand.Name (place b.variable (next a.variable free)))) ∷ []);
-}
-expression_step names (Expr-F.Ite test a b) = record {
-  variable = None;
-  into = λ x free. code test free
-      ++ roll-Stmt (Stmt-F.If (NonZero (place test.variable free)) (a.into x free) (b.into x free)) ∷ [];
-}
+    tested_itself (Some (number names y)) None (λ x free. roll-Stmt (Stmt-F.Copy x (number names y)) ∷ [])
+expression_step names (Expr-F.Load size a) =
+    tested_itself None None (λ x free. code a free ++ roll-Stmt (Stmt-F.Load x size (place a.variable free) (pos 0)) ∷ [])
+expression_step names (Expr-F.Table size bytes i) =
+    tested_itself None None (λ x free. code i free ++ roll-Stmt (Stmt-F.Table x size bytes (place i.variable free)) ∷ [])
+expression_step names (Expr-F.Op op a b) =
+    record { variable = None; literal = None; into = operation op a b; test = operation_test op (operation op a b) a b }
+expression_step names (Expr-F.Ite test a b) =
+    tested_itself None None (λ x free. branches (test.test free) (a.into x free) (b.into x free))
 
 abbrev pub expression : List Name → Expr → Flat
 expression names = fold-Expr Flat (expression_step names)
@@ -168,10 +204,11 @@ command_step fs names (Cmd-F.Store size a e) = store (expression names a) (expre
         ++ roll-Stmt (Stmt-F.Store size (place a.variable free) (place e.variable (next a.variable free)) (pos 0)) ∷ [])
 command_step fs names (Cmd-F.Stackalloc x n body) = roll-Stmt (Stmt-F.Stackalloc (number names x) n (joined body)) ∷ []
 command_step fs names (Cmd-F.If e first second) =
-    code (expression names e) (length names)
-    ++ roll-Stmt (Stmt-F.If (NonZero (place (expression names e).variable (length names))) (joined first) (joined second)) ∷ []
-command_step fs names (Cmd-F.While e body) =
-    roll-Stmt (Stmt-F.Loop (code (expression names e) (length names)) (NonZero (place (expression names e).variable (length names))) (joined body)) ∷ []
+    branches ((expression names e).test (length names)) (joined first) (joined second)
+command_step fs names (Cmd-F.While e body) = repeats ((expression names e).test (length names)) (joined body)
+  where
+    repeats : Test → List Stmt → List Stmt
+    repeats t body = roll-Stmt (Stmt-F.Loop t.before t.cond body) ∷ []
 command_step fs names (Cmd-F.Seq body) = joined body
 command_step fs names (Cmd-F.Call at xs callee es) =
     codes_of (map (expression names) es) (length names)

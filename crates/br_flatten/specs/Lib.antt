@@ -1,3 +1,4 @@
+pub mod Tests
 pub mod Flatten
 pub mod Places
 pub mod Numbering

@@ -1,10 +1,11 @@
-// The statements of expressions.
+// The statements of expressions, of their words and as tests.
 
 ghost use Rattle.std.specs.Prelude.{◌≡◌, ◌≤◌, ◌+◌, ◌++◌, map, IfOk, OnOk};
 ghost use Rattle.br_flatten.specs.Flatten.{code, codes_of, expression, next, place, places_of};
 ghost use Rattle.br_flatten.specs.Numbering.{listed};
 ghost use Rattle.br_measure.specs.Bulk.{expression_bulk, expressions_bulk};
 
+use crate::compare::{Tested, asks_zero, negation, relation};
 use crate::scope::Scope;
 use br_base::NoMemory;
 use br_flatimp::{Cond, Operand, Stmt};
@@ -53,12 +54,12 @@ pub(crate) fn into(
             out.push(Stmt::Op(x, *op, first.at, Operand::Name(second.at)))?;
         }
         Expr::Ite(test, a, b) => {
-            let test = operand(scope, test.get(), free, out)?;
+            let test = tested(scope, test.get(), free, out)?;
             let mut first = Items::new(scope.alloc);
             into(scope, a.get(), x, free, &mut first)?;
             let mut second = Items::new(scope.alloc);
             into(scope, b.get(), x, free, &mut second)?;
-            out.push(Stmt::If(Cond::NonZero(test.at), first, second))?;
+            out.push(Stmt::If(test.cond, first, second))?;
         }
     }
     Ok(())
@@ -90,6 +91,41 @@ pub(crate) fn operand(
     Ok(Placed {
         at: free,
         next: free + 1,
+    })
+}
+
+/// Adds the statements before the test that holds where the word of an expression is not 0.
+#[cycle(expression)]
+pub(crate) fn tested(
+    scope: &Scope,
+    e: &Expr,
+    free: u32,
+    out: &mut Items<Stmt>,
+) -> Result<Tested, NoMemory>
+    requires { free + expression_bulk e.now ≤ 4294967295 }
+    ensures before { OnOk result (out.new ≡ out.old ++ ((expression (listed scope.now.variables.now.names) e.now).test free).before) }
+    ensures cond { IfOk result (λ t. t.cond ≡ ((expression (listed scope.now.variables.now.names) e.now).test free).cond) }
+    ensures next { IfOk result (λ t. t.next ≡ ((expression (listed scope.now.variables.now.names) e.now).test free).next) }
+    ensures room { IfOk result (λ t. t.next ≤ free + expression_bulk e.now) }
+{
+    if let Expr::Op(op, a, b) = e {
+        if asks_zero(*op, scope.literal(b.get())) {
+            let asked = tested(scope, a.get(), free, out)?;
+            return negation(asked, out);
+        }
+        if let Some(rel) = relation(*op) {
+            let first = operand(scope, a.get(), free, out)?;
+            let second = operand(scope, b.get(), first.next, out)?;
+            return Ok(Tested {
+                cond: Cond::Compare(rel, first.at, second.at),
+                next: second.next,
+            });
+        }
+    }
+    let word = operand(scope, e, free, out)?;
+    Ok(Tested {
+        cond: Cond::NonZero(word.at),
+        next: word.next,
     })
 }
 

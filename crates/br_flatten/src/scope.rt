@@ -1,12 +1,12 @@
 // What the statements of a function depend on: the numbers of its variables and of functions.
 
 ghost use Rattle.std.specs.Prelude.{◌≡◌, ◌≤◌, List, map, length, IfOk};
-ghost use Rattle.br_flatten.specs.Flatten.{callee_number, number};
+ghost use Rattle.br_flatten.specs.Flatten.{callee_number, expression, number};
 ghost use Rattle.br_flatten.specs.Numbering.{listed};
 
 use crate::numbering::Numbering;
 use br_base::{Name, NoMemory};
-use br_syntax::Func;
+use br_syntax::{Expr, Func};
 use sqlite_items::Items;
 use std::alloc::Global;
 
@@ -46,6 +46,17 @@ impl<'a> Scope<'a> {
             numbers.push(self.variable(x))?;
         }
         Ok(numbers)
+    }
+
+    /// The literal that an expression is.
+    pub(crate) fn literal(&self, e: &Expr) -> Option<u32>
+        ensures { result ≡ (expression (listed self.now.variables.now.names) e.now).literal }
+    {
+        match e {
+            Expr::Literal(n) => Some(*n),
+            Expr::Var(_) | Expr::Load(_, _) | Expr::Table(_, _, _) => None,
+            Expr::Op(_, _, _) | Expr::Ite(_, _, _) => None,
+        }
     }
 
     /// The first temporary.

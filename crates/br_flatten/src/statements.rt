@@ -5,10 +5,10 @@ ghost use Rattle.br_flatten.specs.Flatten.{command, commands, device_statements,
 ghost use Rattle.br_flatten.specs.Numbering.{listed};
 ghost use Rattle.br_measure.specs.Bulk.{command_bulk, commands_bulk};
 
-use crate::operands::{into, operand, operands};
+use crate::operands::{into, operand, operands, tested};
 use crate::scope::Scope;
 use br_base::{Name, NoMemory};
-use br_flatimp::{Cond, Stmt};
+use br_flatimp::Stmt;
 use br_syntax::Cmd;
 use sqlite_items::Items;
 
@@ -46,19 +46,19 @@ fn command(scope: &Scope, c: &Cmd, out: &mut Items<Stmt>) -> Result<(), NoMemory
             out.push(Stmt::Stackalloc(scope.variable(x), *n, body))?;
         }
         Cmd::If(e, first, second) => {
-            let test = operand(scope, e, free, out)?;
+            let test = tested(scope, e, free, out)?;
             let mut taken = Items::new(scope.alloc);
             commands(scope, first.as_slice(), &mut taken)?;
             let mut other = Items::new(scope.alloc);
             commands(scope, second.as_slice(), &mut other)?;
-            out.push(Stmt::If(Cond::NonZero(test.at), taken, other))?;
+            out.push(Stmt::If(test.cond, taken, other))?;
         }
         Cmd::While(e, inner) => {
             let mut first = Items::new(scope.alloc);
-            let test = operand(scope, e, free, &mut first)?;
+            let test = tested(scope, e, free, &mut first)?;
             let mut body = Items::new(scope.alloc);
             commands(scope, inner.as_slice(), &mut body)?;
-            out.push(Stmt::Loop(first, Cond::NonZero(test.at), body))?;
+            out.push(Stmt::Loop(first, test.cond, body))?;
         }
         Cmd::Seq(body) => {
             commands(scope, body.as_slice(), out)?;

@@ -75,18 +75,20 @@ fn write_statement(text: &mut String, s: &Stmt) -> Result<(), Fail> {
             write!(text, " ]")?;
         }
         Stmt::If(test, first, second) => {
-            let y = tested(*test);
-            write!(text, " if {y} [")?;
+            write!(text, " if ")?;
+            write_test(text, *test)?;
+            write!(text, " [")?;
             write_statements(text, first.as_slice())?;
             write!(text, " ] [")?;
             write_statements(text, second.as_slice())?;
             write!(text, " ]")?;
         }
         Stmt::Loop(first, test, last) => {
-            let y = tested(*test);
             write!(text, " loop [")?;
             write_statements(text, first.as_slice())?;
-            write!(text, " ] {y} [")?;
+            write!(text, " ] ")?;
+            write_test(text, *test)?;
+            write!(text, " [")?;
             write_statements(text, last.as_slice())?;
             write!(text, " ]")?;
         }
@@ -111,12 +113,12 @@ fn operand(z: Operand) -> u32 {
     }
 }
 
-// The name that a test reads. A comparison reads two.
-fn tested(test: Cond) -> u32 {
+fn write_test(text: &mut String, test: Cond) -> Result<(), Fail> {
     match test {
-        Cond::NonZero(y) => y,
-        Cond::Compare(_, _, _) => 4294967295,
+        Cond::NonZero(y) => write!(text, "{y}")?,
+        Cond::Compare(rel, y, z) => write!(text, "{rel:?} {y} {z}")?,
     }
+    Ok(())
 }
 
 #[test]
@@ -154,7 +156,17 @@ fn statements_of_texts(rt: HostRuntime) -> Result<(), Fail> {
         // A loop computes its test again on each turn.
         (
             "(fn main () (r) (set r 0) (while (ltu r 9) (set r (add r 4))))",
-            "() -> (0) of 3: lit 0 0; loop [ lit 2 9; Ltu 1 0 2; ] 1 [ lit 1 4; Add 0 0 1; ]\n",
+            "() -> (0) of 2: lit 0 0; loop [ lit 1 9; ] Ltu 0 1 [ lit 1 4; Add 0 0 1; ]\n",
+        ),
+        // A comparison is tested itself, and the opposite one where it is compared with 0.
+        (
+            "(fn f (a b) (r) (if (eq (ltu a b) 0) (then (set r 1)) (else (set r (lts a b)))))",
+            "(0 1) -> (2) of 3: if Geu 0 1 [ lit 2 1; ] [ Lts 2 0 1; ]\n",
+        ),
+        (
+            "(fn f (a) (r) (set r (ite (eq (eq a 0) 0) 7 a)) (while (eq (mul a a) 0)))",
+            "(0) -> (1) of 4: lit 2 0; if Ne 0 2 [ lit 1 7; ] [ copy 1 0; ] \
+            loop [ Mul 2 0 0; lit 3 0; ] Eq 2 3 [ ]\n",
         ),
         (
             "(fn f (a) (r) (if a (then (set r 1)) (else (unset r) (seq (skip) (set r 2)))))",
@@ -274,7 +286,7 @@ fn statements_of_examples(rt: HostRuntime) -> Result<(), Fail> {
             "(0 1) -> (2) of 5: Add 2 0 1; Mul 3 0 1; Sub 2 2 3; Mulhuu 3 0 1; Xor 2 2 3; \
             Divu 3 0 1; Or 2 2 3; Remu 3 0 1; And 2 2 3; Slu 3 0 1; Xor 2 2 3; Sru 3 0 1; \
             Xor 2 2 3; Srs 3 0 1; Xor 2 2 3; Lts 3 0 1; Add 2 2 3; Ltu 3 0 1; Add 2 2 3; \
-            lit 4 42; Eq 3 0 4; Add 2 2 3; Ltu 3 0 1; if 3 [ Sub 2 1 0; ] [ copy 2 2; ]\n\
+            lit 4 42; Eq 3 0 4; Add 2 2 3; if Ltu 0 1 [ Sub 2 1 0; ] [ copy 2 2; ]\n\
             () -> (0) of 5: stackalloc 1 8 [ lit 2 1; store One 1 2 0; lit 3 2; Add 2 1 3; lit 3 2; \
             store Two 2 3 0; lit 3 4; Add 2 1 3; lit 3 4; store Four 2 3 0; load One 0 1 0; \
             lit 4 2; Add 3 1 4; load Two 2 3 0; Add 0 0 2; \
@@ -301,7 +313,7 @@ fn statements_of_examples(rt: HostRuntime) -> Result<(), Fail> {
                     (unset last)))))",
             "(0) -> (1 2) of 4: lit 1 0; lit 3 1; Sub 2 0 3; \
             loop [ ] 0 [ Add 1 1 0; lit 3 1; Sub 0 0 3; ]\n\
-            () -> () of 5: lit 3 268509184; read 0 3; lit 4 0; Eq 3 0 4; if 3 [ ] \
+            () -> () of 4: lit 3 268509184; read 0 3; lit 3 0; if Eq 0 3 [ ] \
             [ call (1 2) 0 (0); lit 3 268509196; write 3 1; ]\n",
         ),
     ];

@@ -1,10 +1,13 @@
--- An operand is one step from its statements, and each of its parts is smaller.
+-- A test is one step from an operand, which is one step from its statements, and each part is smaller.
 use Rattle.std.proofs.Common.{◌+◌, ◌*◌}
 use Rattle.br_measure.specs.Bulk.{expression_bulk}
 use Rattle.br_flatten.proofs.operands.+expression.Given as goal
 
 abbrev pub decreases-into : goal.decreases-into
-decreases-into l = 2 * expression_bulk l.e.now
+decreases-into l = 3 * expression_bulk l.e.now
 
 abbrev pub decreases-operand : goal.decreases-operand
-decreases-operand l = 2 * expression_bulk l.e.now + 1
+decreases-operand l = 3 * expression_bulk l.e.now + 1
+
+abbrev pub decreases-tested : goal.decreases-tested
+decreases-tested l = 3 * expression_bulk l.e.now + 2
