@@ -4,7 +4,7 @@ use Rattle.std.specs.List.{AllByRecursion}
 use Rattle.br_flatimp.specs.declared.program.FlatFunc.{FlatFunc}
 use Rattle.br_flatimp.specs.Sizes.{nest}
 use Rattle.br_flatimp.specs.Runs.{forgets_none}
-use Rattle.br_emit.specs.Code.{AllFit, Targets, callable_items, entry_items, direct_items}
+use Rattle.br_emit.specs.Code.{AllFit, Targets, callable_items, entry_items}
 use Rattle.br_emit.specs.Sizes.{IsFront, sized_all}
 use Rattle.br_emit.specs.Buffer.{Written, appended}
 use Rattle.br_emit.specs.Ready.{Ready}

@@ -1,6 +1,6 @@
 -- The image of a program: its code, its entries and its limits.
-use Rattle.std.proofs.Common.{◌≡◌, ◌≢◌, ℕ, zero, suc, ◌+◌, ◌-◌, ◌*◌, ◌%◌, ◌^◌, ◌<◌, ◌≤◌, ◌&&◌, not, ◌||◌, min, max, nat_le, if◌then◌else◌, Bool, true, false, IsTrue, List, [], ◌∷◌, ◌++◌, map, get_or, drop, length, sum, Option, Some, None, refl, sym, ap, subst, ◌∙◌, arith, append_assoc}
-use Rattle.std.specs.Prelude.{All, AllPairs, slice_get, bytes_eq}
+use Rattle.std.proofs.Common.{◌≡◌, ◌≢◌, ℕ, zero, suc, ◌+◌, ◌*◌, ◌^◌, ◌<◌, ◌≤◌, ◌&&◌, not, ◌||◌, nat_le, if◌then◌else◌, Bool, true, false, IsTrue, List, [], ◌∷◌, ◌++◌, map, get_or, drop, length, sum, Some, refl, sym, ap, subst, ◌∙◌, arith, append_assoc}
+use Rattle.std.specs.Prelude.{All, slice_get, bytes_eq}
 use Rattle.std.specs.List.{AllByRecursion, list_all, list_any}
 use Rattle.std.proofs.lemmas.Bool.Decides.{nat_tests}
 use Rattle.std.proofs.lemmas.List.Elements.{All-nil, All-cons}
@@ -12,16 +12,16 @@ use Rattle.br_words.specs.declared.layout.Layout.TheVariants.{Two}
 use Rattle.br_flatimp.specs.declared.program.FlatFunc.{FlatFunc}
 use Rattle.br_flatimp.specs.Parts.{throughout, callees}
 use Rattle.br_flatimp.specs.Runs.{forgets_none, call}
-use Rattle.br_flatimp.specs.Sizes.{nest, largest, own_need, statement_bulk, function_bulk, flat_bulk}
-use Rattle.br_flatimp.specs.WellFormed.{IsRegisterForm, names_differ, is_well_formed_function, is_well_formed_head, is_well_formed_statement, is_register_function, is_passing, is_list_of_names, are_below, all_differ, fits, uses_registers}
+use Rattle.br_flatimp.specs.Sizes.{nest, largest, own_need, function_bulk, flat_bulk}
+use Rattle.br_flatimp.specs.WellFormed.{IsRegisterForm, names_differ, is_well_formed_function, is_well_formed_head, is_well_formed_statement, is_register_function, is_passing, is_list_of_names, are_below, all_differ, uses_registers}
 use Rattle.br_image.specs.declared.images.Entry.{Entry}
 use Rattle.br_image.specs.Limits.{InLimits, EntryInLimits, HaveDifferentNames}
-use Rattle.br_emit.specs.Code.{AllFit, item_word, Targets, callable_items, program_items, places, entry_place, is_called, saved_bytes, function_items}
-use Rattle.br_emit.specs.Sizes.{callable_words, direct_words, function_words, begins, entries, program_words, sized_all}
+use Rattle.br_emit.specs.Code.{AllFit, item_word, Targets, callable_items, program_items, places, entry_place, is_called, function_items}
+use Rattle.br_emit.specs.Sizes.{callable_words, function_words, begins, entries, program_words}
 use Rattle.br_emit.specs.Ready.{InReach, aimed, is_encodable}
 use Rattle.br_emit.specs.Written.{rest_items, flagged, AreCalled, Writable, CanWrite, address_of, offset_of, addresses, entry_offsets}
 use Rattle.br_emit.specs.Laid.{IsCodeOf, EntryShown, ShowsFunction, callee_need}
-use Rattle.br_emit.specs.Emitted.{AreNeeds, Describes, AllDescribed, ShowsProgram, HasFewNames, entry_of, entries_of}
+use Rattle.br_emit.specs.Emitted.{AreNeeds, AllDescribed, IsOffset, ShowsProgram, HasFewNames, entry_of, entries_of}
 use Rattle.br_emit.proofs.Leaves.{both}
 use Rattle.br_emit.proofs.Totals.{sum_cons, all_within, callable_length, function_length, program_length, program_most, begins_are}
 use Rattle.br_emit.proofs.Needing.{own_need_is_enough}
@@ -100,9 +100,9 @@ formed fs form n f there =
       encodable = body_encodable fs f.names f.body well.1 register.1;
     }
 
-pub can_write : (fs : List FlatFunc) (ns : List ℕ) → IsRegisterForm fs → AreNeeds fs ns → All (λ n. n ≤ 1048576) ns → flat_bulk fs ≤ 1048576 → CanWrite 1048576 fs
-can_write fs ns form is few fit = record {
-  each = all_by (Writable 1048576) fs
+pub can_write : (fs : List FlatFunc) (ns : List ℕ) (most : ℕ) → IsRegisterForm fs → AreNeeds fs ns → All (λ n. n ≤ 1048576) ns → flat_bulk fs ≤ 1048576 → flat_bulk fs ≤ most → CanWrite most fs
+can_write fs ns most form is few fit room = record {
+  each = all_by (Writable most) fs
       (λ n f there.
       let within = all_within f.body (nest f) in
       let parts = within.parts in
@@ -112,10 +112,28 @@ can_write fs ns form is few fit = record {
       record {
         nested = omega (arith, own, less);
         form = (formed fs form n f there).encodable;
-        parts = omega (arith, parts, bulk, fit);
+        parts = omega (arith, parts, bulk, room);
       });
   few = fit;
 }
+
+-- what can be written with so much room can be written with more
+pub writable_more : (most more : ℕ) (fs : List FlatFunc) → most ≤ more → AllByRecursion (Writable most) fs → AllByRecursion (Writable more) fs
+writable_more most more [] h each = tt
+writable_more most more (f ∷ fs) h each =
+    let here = each.0 in
+    let parts = here.parts in (
+      record { nested = here.nested; form = here.form; parts = omega (arith, parts, h) },
+      writable_more most more fs h each.1,
+    )
+
+-- each function has at least one word in its bulk
+pub functions_few : (fs : List FlatFunc) → length fs ≤ flat_bulk fs
+functions_few [] = omega arith
+functions_few (f ∷ fs) =
+    let rest = functions_few fs in
+    let added = sum_cons (function_bulk f) (map function_bulk fs) in
+    omega (arith, rest, added)
 
 pub have_few_names : (fs : List FlatFunc) → IsRegisterForm fs → AllByRecursion HasFewNames fs
 have_few_names fs form = all_by HasFewNames fs (λ n f there. let is = formed fs form n f there in record { args = is.few_args; results = is.few_results })
@@ -138,8 +156,8 @@ aimed_at fs n place at = get_some address_of (begins (is_called fs) 0 0 fs) n pl
 
 -- ---- what is written, by the flags of called functions
 
-pub words_few : (fs : List FlatFunc) (flags : List Bool) → AreCalled flags fs → flat_bulk fs ≤ 1048576 → program_words (flagged flags) 0 fs ≤ 1048576
-words_few fs flags are fit =
+pub words_few : (fs : List FlatFunc) (flags : List Bool) (most : ℕ) → AreCalled flags fs → flat_bulk fs ≤ most → program_words (flagged flags) 0 fs ≤ most
+words_few fs flags bound are fit =
     let same = same_words (flagged flags) (is_called fs) 0 fs (agree fs flags are) in
     let most = program_most (is_called fs) 0 fs in
     omega (arith, same, most, fit)
@@ -286,19 +304,23 @@ shows fs ns code es law is needs_are few are n f e there at fuel args count word
 
 -- ---- limits
 
-entry_below : (called : ℕ → Bool) (place n : ℕ) (rest : List FlatFunc) (k : ℕ) (f : FlatFunc) → slice_get rest k ≡ Some f → get_or (map offset_of (entries called place n rest)) k 0 < 4 * (place + program_words called n rest)
-entry_below called place n [] k f is = absurd (cc)
-entry_below called place n (g ∷ rest) zero f is = by (called n) refl
+entries_inside : (called : ℕ → Bool) (place n : ℕ) (rest : List FlatFunc) (words : ℕ) → place + program_words called n rest ≤ words → All (IsOffset words) (map offset_of (entries called place n rest))
+entries_inside called place n [] words few = All-nil (IsOffset words)
+entries_inside called place n (f ∷ rest) words few =
+    All-cons (IsOffset words) (offset_of (if called n then place + callable_words f else place)) (map offset_of (entries called (place + function_words (called n) f) (n + 1) rest))
+    (here (called n) few)
+    (entries_inside called (place + function_words (called n) f) (n + 1) rest words (omega (arith, few)))
   where
-    by : (b : Bool) → called n ≡ b → 4 * (if called n then place + callable_words g else place) < 4 * (place + (function_words (called n) g + program_words called (n + 1) rest))
-    by true e = rw e (omega arith)
-    by false e = rw e (omega arith)
-entry_below called place n (g ∷ rest) (suc k) f is = let later = entry_below called (place + function_words (called n) g) (n + 1) rest k f is in omega (arith, later)
+    here : (b : Bool) → place + (function_words b f + program_words called (n + 1) rest) ≤ words → IsOffset words (offset_of (if b then place + callable_words f else place))
+    here true few = record { aligned = omega arith; inside = omega (arith, few) }
+    here false few = record { aligned = omega arith; inside = omega (arith, few) }
 
-entry_fours : (called : ℕ → Bool) (place n : ℕ) (rest : List FlatFunc) (k : ℕ) → get_or (map offset_of (entries called place n rest)) k 0 % 4 ≡ 0
-entry_fours called place n [] k = refl
-entry_fours called place n (g ∷ rest) zero = omega arith
-entry_fours called place n (g ∷ rest) (suc k) = entry_fours called (place + function_words (called n) g) (n + 1) rest k
+pub offsets_inside : (fs : List FlatFunc) (offsets code : List ℕ) → code ≡ map item_word (program_items (aimed (addresses fs)) forgets_none fs 0 fs) → offsets ≡ entry_offsets fs → All (IsOffset (length code)) offsets
+offsets_inside fs offsets code items are =
+    let all = program_items (aimed (addresses fs)) forgets_none fs 0 fs in
+    let size : length code ≡ length all = ap length items ∙ length-map all item_word in
+    let long = program_length (aimed (addresses fs)) fs 0 fs in
+    subst (All (IsOffset (length code))) (sym are) (entries_inside (is_called fs) 0 0 fs (length code) (omega (arith, size, long)))
 
 each_in_limits : (words : ℕ) (offsets ns : List ℕ) (n : ℕ) (rest : List FlatFunc) → ((k : ℕ) (f : FlatFunc) → slice_get rest k ≡ Some f → EntryInLimits words (entry_of f (get_or offsets (n + k) 0) (get_or ns (n + k) 0)))
     → All (EntryInLimits words) (entries_of offsets ns n rest)
@@ -350,36 +372,31 @@ names_apart offsets ns n (f ∷ rest) h =
     none_of true h = absurd (cc)
     none_of false h = refl
 
-pub in_limits : (fs : List FlatFunc) (ns code : List ℕ) (es : List Entry) → IsRegisterForm fs → AreNeeds fs ns → All (λ n. n ≤ 1048576) ns → flat_bulk fs ≤ 1048576
-    → code ≡ map item_word (program_items (aimed (addresses fs)) forgets_none fs 0 fs) → All (λ w. w < 2 ^ 32) code
-    → AllByRecursion (λ f. IsName f.name) fs → es ≡ entries_of (entry_offsets fs) ns 0 fs → InLimits Two es code
-in_limits fs ns code es form is few fit items words named are =
-    let most = code_most fs code items in
-    let all = program_items (aimed (addresses fs)) forgets_none fs 0 fs in
-    let size : length code ≡ length all = ap length items ∙ length-map all item_word in
-    let long = program_length (aimed (addresses fs)) fs 0 fs in
-    record {
-      count = omega (arith, most, fit);
-      words = words;
-      each = subst (All (EntryInLimits (length code))) (sym are)
-          (each_in_limits (length code) (entry_offsets fs) ns 0 fs
-          (λ k f there.
-          let number : 0 + k ≡ k = omega arith in
-          let has = formed fs form k f there in
-          let less = need_few fs ns is few k f there in
-          let inside = entry_below (is_called fs) 0 0 fs k f there in
-          let fours = entry_fours (is_called fs) 0 0 fs k in
-          subst (λ q. EntryInLimits (length code) (entry_of f (get_or (entry_offsets fs) q 0) (get_or ns q 0))) (sym number)
-          (record {
-            name = recursion_at (λ (g : FlatFunc). IsName g.name) fs k f named there;
-            args = has.few_args;
-            results = has.few_results;
-            aligned = fours;
-            offset = omega (arith, inside, size, long);
-            need = less;
-          })));
-      names = subst HaveDifferentNames (sym are) (names_apart (entry_offsets fs) ns 0 fs (both (names_differ fs) (list_all (is_well_formed_function fs) fs) form.0).0);
-    }
+pub in_limits : (fs : List FlatFunc) (ns offsets code : List ℕ) (es : List Entry) → IsRegisterForm fs → AreNeeds fs ns → All (λ n. n ≤ 1048576) ns → length code ≤ 1048576
+    → All (λ w. w < 2 ^ 32) code → length offsets ≡ length fs → All (IsOffset (length code)) offsets
+    → AllByRecursion (λ f. IsName f.name) fs → es ≡ entries_of offsets ns 0 fs → InLimits Two es code
+in_limits fs ns offsets code es form is few most words long inside named are = record {
+  count = most;
+  words = words;
+  each = subst (All (EntryInLimits (length code))) (sym are)
+      (each_in_limits (length code) offsets ns 0 fs
+      (λ k f there.
+      let number : 0 + k ≡ k = omega arith in
+      let has = formed fs form k f there in
+      let less = need_few fs ns is few k f there in
+      let among = get_inside fs k f there in
+      let offset = inside k 0 (omega (arith, among, long)) in
+      subst (λ q. EntryInLimits (length code) (entry_of f (get_or offsets q 0) (get_or ns q 0))) (sym number)
+      (record {
+        name = recursion_at (λ (g : FlatFunc). IsName g.name) fs k f named there;
+        args = has.few_args;
+        results = has.few_results;
+        aligned = offset.aligned;
+        offset = offset.inside;
+        need = less;
+      })));
+  names = subst HaveDifferentNames (sym are) (names_apart offsets ns 0 fs (both (names_differ fs) (list_all (is_well_formed_function fs) fs) form.0).0);
+}
 
 -- ---- entries, one after another
 

@@ -1,5 +1,5 @@
 -- What a function saves is within what it needs for itself.
-use Rattle.std.proofs.Common.{◌≡◌, ◌≢◌, ℕ, zero, suc, ◌+◌, ◌*◌, ◌<◌, ◌≤◌, ◌==◌, ◌&&◌, ◌||◌, not, eqb, cond, if◌then◌else◌, Bool, true, false, List, [], ◌∷◌, ◌++◌, map, length, filter, refl, sym, ap, subst, ◌∙◌, arith}
+use Rattle.std.proofs.Common.{◌≡◌, ◌≢◌, ℕ, zero, suc, ◌+◌, ◌<◌, ◌≤◌, ◌==◌, ◌&&◌, ◌||◌, not, eqb, cond, if◌then◌else◌, Bool, true, false, List, [], ◌∷◌, ◌++◌, map, length, filter, refl, sym, ap, subst, ◌∙◌, arith}
 use Rattle.std.specs.List.{flat_map, list_any}
 use Rattle.std.specs.Set.{is_member, unique_keys, distinct_count}
 use Rattle.std.proofs.lemmas.Bool.Decides.{nat_tests}
@@ -11,7 +11,7 @@ use Rattle.br_flatimp.specs.Parts.{written, read, parts, gathered, statement_nam
 use Rattle.br_flatimp.specs.Liveness.{is_in}
 use Rattle.br_flatimp.specs.Runs.{forgets_none}
 use Rattle.br_flatimp.specs.Sizes.{nest, own_need}
-use Rattle.br_emit.specs.Code.{count_up, registers, written_names, changes, is_saved, saves, saved_bytes}
+use Rattle.br_emit.specs.Code.{count_up, written_names, changes, is_saved, saved_bytes}
 
 -- ---- numbers that pass a test, and the different numbers of a list
 

@@ -1,5 +1,5 @@
 -- What is said of the image of a program in register form.
-use Rattle.std.specs.Prelude.{◌≡◌, ℕ, ◌+◌, ◌*◌, ◌≤◌, min, List, [], ◌∷◌, length, map, Some, slice_get, get_or}
+use Rattle.std.specs.Prelude.{◌≡◌, ℕ, ◌+◌, ◌*◌, ◌%◌, ◌<◌, ◌≤◌, min, List, [], ◌∷◌, length, map, Some, slice_get, get_or}
 use Rattle.br_bytes.specs.Memory.{Memory}
 use Rattle.br_bytes.specs.Buffers.{AreWords}
 use Rattle.br_flatimp.specs.declared.program.FlatFunc.{FlatFunc}
@@ -32,6 +32,11 @@ AllDescribed [] needs (e ∷ entries) = ⊥
 AllDescribed [] (need ∷ needs) [] = ⊥
 AllDescribed (f ∷ fs) needs [] = ⊥
 AllDescribed (f ∷ fs) [] (e ∷ entries) = ⊥
+
+-- the offset in bytes of one of so many words of code
+pub record IsOffset (words offset : ℕ) : Type 0 where
+  pub aligned : offset % 4 ≡ 0
+  pub inside : offset < 4 * words
 
 -- The code shows each call of each function, begun at the function's entry: for all arguments, memory in the data
 -- region, answers of devices, leftover contents and fuel there are choices of buffers with which the flat call is

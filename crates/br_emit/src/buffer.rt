@@ -1,9 +1,11 @@
 // The one buffer that code is written into.
 
-ghost use Rattle.std.specs.Prelude.{◌≡◌, ◌≤◌, ◌<◌, ◌++◌, ◌∷◌, [], ◌-◌, slice_set, length, IfOk};
+ghost use Rattle.std.specs.Prelude.{◌≡◌, ◌≤◌, ◌<◌, ◌^◌, ◌++◌, ◌∷◌, [], ◌-◌, All, slice_set, length, IfOk};
 
 use crate::code::Code;
+use crate::numbers::Numbers;
 use br_base::NoMemory;
+use sqlite_items::Items;
 use std::alloc::Global;
 use std::marker::Model;
 
@@ -13,24 +15,32 @@ use std::marker::Model;
 #[derive(Drop)]
 pub struct CodeBuffer {
     pub(crate) code: Code,
-    pub(crate) offsets: Vec<u32>,
-    // the callees of the functions, in the order of their calls
-    pub(crate) callees: Vec<u32>,
+    pub(crate) offsets: Numbers,
+    // A call takes no room: where each function stands is known before a call is written.
+    calls: u32,
+    // What is found before a function is written: which functions are called, where they stand, and how
+    // long the parts of one function are.
+    pub(crate) called: Vec<bool>,
+    pub(crate) targets: Numbers,
+    pub(crate) lengths: Numbers,
 }
 
 impl Model for CodeBuffer {
-    ghost use Rattle.std.specs.Prelude.{◌-◌, vec_len, vec_capacity};
+    ghost use Rattle.std.specs.Prelude.{◌+◌, ◌≤◌, length, vec_capacity};
     ghost use Rattle.br_emit.specs.Buffer.{Held};
 
     ghost Value = { Held };
 
     ghost view = { λ b. record {
       words = b.code.words;
-      offsets = b.offsets.items;
+      offsets = b.offsets.numbers;
       word_room = b.code.room;
-      function_room = vec_capacity b.offsets - vec_len b.offsets;
-      call_room = vec_capacity b.callees - vec_len b.callees;
+      function_room = b.offsets.room;
+      call_room = b.calls;
     } };
+
+    // What words and functions have room for, there is room to find.
+    ghost invariant = { λ b. (b.code.room ≤ b.lengths.room + length b.lengths.numbers) × (b.offsets.room ≤ vec_capacity b.called) × (b.offsets.room ≤ b.targets.room + length b.targets.numbers) };
 }
 
 impl CodeBuffer {
@@ -48,12 +58,17 @@ impl CodeBuffer {
         ensures call_room { IfOk result (λ b. calls ≤ b.call_room) }
     {
         let code = Code::with_room(alloc, words)?;
-        let offsets = Vec::with_capacity(alloc, functions as usize)?;
-        let callees = Vec::with_capacity(alloc, calls as usize)?;
+        let offsets = Numbers::with_room(alloc, functions as usize)?;
+        let called = Vec::with_capacity(alloc, functions as usize)?;
+        let targets = Numbers::with_room(alloc, functions as usize)?;
+        let lengths = Numbers::with_room(alloc, words as usize)?;
         Ok(CodeBuffer {
             code,
             offsets,
-            callees,
+            calls,
+            called,
+            targets,
+            lengths,
         })
     }
 
@@ -85,5 +100,13 @@ impl CodeBuffer {
         ensures { result.now ≡ self.now.offsets }
     {
         self.offsets.as_slice()
+    }
+
+    // The words as items.
+    pub(crate) fn into_words(self) -> Items<u32>
+        ensures value { result ≡ self.words }
+        ensures words { All (λ w. w < 2 ^ 32) self.words }
+    {
+        self.code.into_words()
     }
 }

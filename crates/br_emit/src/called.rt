@@ -1,22 +1,33 @@
 // Which functions of a program are called.
 
-ghost use Rattle.std.specs.Prelude.{◌≡◌, ◌++◌, false, replicate, length, IfOk};
+ghost use Rattle.std.specs.Prelude.{◌≡◌, ◌≤◌, ◌++◌, false, replicate, length, vec_capacity};
 ghost use Rattle.std.specs.List.{flat_map};
 ghost use Rattle.br_flatimp.specs.Parts.{gathered, own_callees, callees};
 ghost use Rattle.br_emit.specs.Marks.{marked};
 
 use crate::registers::mark;
-use br_base::NoMemory;
 use br_flatimp::{FlatFunc, Stmt};
-use std::alloc::Global;
 
-/// A flag for each function, which says whether a function calls it.
-pub fn called_flags(alloc: Global, funcs: &[FlatFunc]) -> Result<Vec<bool>, NoMemory>
-    ensures { IfOk result (λ v. v.items ≡ marked (replicate (length funcs.now) false) (flat_map callees funcs.now)) }
+/// A flag for each function, which says whether a function calls it, in place of those before.
+pub fn flag_called(flags: &mut Vec<bool>, funcs: &[FlatFunc])
+    requires room { length funcs.now ≤ vec_capacity flags.old }
+    ensures flags { flags.new.items ≡ marked (replicate (length funcs.now) false) (flat_map callees funcs.now) }
+    ensures capacity { vec_capacity flags.new ≡ vec_capacity flags.old }
 {
-    let mut flags = vec![in alloc; false; funcs.len()]?;
-    mark_program(&mut flags, funcs);
-    Ok(flags)
+    unflag(flags, funcs.len());
+    mark_program(flags.as_mut_slice(), funcs);
+}
+
+// So many flags that are not set, in place of those before.
+fn unflag(flags: &mut Vec<bool>, count: usize)
+    requires { count ≤ vec_capacity flags.old }
+    ensures flags { flags.new.items ≡ replicate count false }
+    ensures capacity { vec_capacity flags.new ≡ vec_capacity flags.old }
+{
+    flags.clear();
+    for _n in 0..count {
+        flags.push_reserved(false);
+    }
 }
 
 // Sets the flags of the functions that functions call.

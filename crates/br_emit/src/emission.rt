@@ -1,6 +1,6 @@
 // The image of a program.
 
-ghost use Rattle.std.specs.Prelude.{◌≡◌, ◌≤◌, ◌<◌, ◌^◌, All, map, length, IfOk};
+ghost use Rattle.std.specs.Prelude.{◌≡◌, ◌≤◌, [], All, map, length, IfOk};
 ghost use Rattle.std.specs.List.{AllByRecursion};
 ghost use Rattle.br_base.specs.Name.{IsName};
 ghost use Rattle.br_words.specs.declared.layout.Layout.TheVariants.{Two};
@@ -9,25 +9,22 @@ ghost use Rattle.br_flatimp.specs.Runs.{forgets_none};
 ghost use Rattle.br_flatimp.specs.Sizes.{flat_bulk};
 ghost use Rattle.br_flatimp.specs.WellFormed.{IsRegisterForm};
 ghost use Rattle.br_emit.specs.Code.{AllFit, item_word, program_items};
-ghost use Rattle.br_emit.specs.Emitted.{AreNeeds, AllDescribed, ShowsProgram, HasFewNames, entry_of, entries_of};
+ghost use Rattle.br_emit.specs.Emitted.{AreNeeds, AllDescribed, IsOffset, ShowsProgram, HasFewNames, entry_of, entries_of};
 ghost use Rattle.br_emit.specs.Ready.{aimed};
-ghost use Rattle.br_emit.specs.Written.{AreCalled, CanWrite, addresses, entry_offsets};
+ghost use Rattle.br_emit.specs.Written.{CanWrite, addresses, entry_offsets};
 
-use crate::called::called_flags;
-use crate::code::Code;
+use crate::buffer::CodeBuffer;
+use crate::called::flag_called;
 use crate::laws::code_shows_its_program;
-use crate::numbers::Numbers;
 use crate::places::place_functions;
 use crate::programs::write_functions;
+use crate::room::most_words;
 use br_base::NoMemory;
 use br_flatimp::{FlatFunc, FlatProgram};
 use br_image::{Entry, Image};
 use br_words::Layout;
 use sqlite_items::Items;
 use std::alloc::Global;
-
-// The most words of code, and so the most lengths of parts in a function.
-const MOST_WORDS: usize = 1_048_576;
 
 /// The image of a program in register form, in the second layout: for each function an entry with its
 /// name, its counts and its need, and at most as many words of code as the program's flat bulk. Its code
@@ -45,66 +42,73 @@ pub fn emit(alloc: Global, p: &FlatProgram, needs: &[u32]) -> Result<Image, NoMe
     ensures shows { IfOk result (λ i. ShowsProgram p.now.funcs i.entries i.code) }
 {
     let funcs = p.funcs.as_slice();
-    let (code, offsets) = coded(alloc, funcs)?;
-    image(alloc, funcs, needs, offsets.as_slice(), code)
-}
-
-// The image of functions, by their needs, the offsets of their entries and their code.
-fn image(
-    alloc: Global,
-    funcs: &[FlatFunc],
-    needs: &[u32],
-    offsets: &[u32],
-    code: Code,
-) -> Result<Image, NoMemory>
-    requires register_form { IsRegisterForm funcs.now }
-    requires needs { AreNeeds funcs.now needs.now }
-    requires stack { All (λ need. need ≤ most_stack) needs.now }
-    requires size { flat_bulk funcs.now ≤ most_words Two }
-    requires offsets { offsets.now ≡ entry_offsets funcs.now }
-    requires code { code.words ≡ map item_word (program_items (aimed (addresses funcs.now)) forgets_none funcs.now 0 funcs.now) }
-    requires fit { AllFit (program_items (aimed (addresses funcs.now)) forgets_none funcs.now 0 funcs.now) }
-    ensures layout { IfOk result (λ i. i.layout ≡ Two) }
-    ensures entries { IfOk result (λ i. AllDescribed funcs.now needs.now i.entries) }
-    ensures words { IfOk result (λ i. length i.code ≤ flat_bulk funcs.now) }
-    ensures shows { IfOk result (λ i. ShowsProgram funcs.now i.entries i.code) }
-{
-    code_shows_its_program();
-    let entries = entries(alloc, funcs, offsets, needs)?;
-    let code = code.into_words();
+    let mut code = buffer_for(alloc, funcs)?;
+    emit_into(p, needs, &mut code);
+    let entries = entries(alloc, funcs, code.offsets(), needs)?;
+    let words = code.into_words();
     Ok(Image {
         layout: Layout::Two,
         entries,
-        code,
+        code: words,
     })
 }
 
-// The code of functions, and the offsets of their entries.
-fn coded(alloc: Global, funcs: &[FlatFunc]) -> Result<(Code, Numbers), NoMemory>
-    requires { CanWrite 1048576 funcs.now }
-    ensures code { IfOk result (λ c. c.0.words ≡ map item_word (program_items (aimed (addresses funcs.now)) forgets_none funcs.now 0 funcs.now)) }
-    ensures fit { IfOk result (λ _. AllFit (program_items (aimed (addresses funcs.now)) forgets_none funcs.now 0 funcs.now)) }
-    ensures offsets { IfOk result (λ c. c.1.numbers ≡ entry_offsets funcs.now) }
+/// Writes the code of a program in register form, and the offset of each function's entry, into a
+/// buffer with nothing in it. With the given needs these make an image as [`emit`] answers it. There has
+/// to be room for the program's flat bulk in words and for each function, and no memory is taken.
+pub fn emit_into(p: &FlatProgram, needs: &[u32], code: &mut CodeBuffer)
+    requires register_form { IsRegisterForm p.now.funcs }
+    requires needs { AreNeeds p.now.funcs needs.now }
+    requires stack { All (λ need. need ≤ most_stack) needs.now }
+    requires size { flat_bulk p.now.funcs ≤ most_words Two }
+    requires no_words { code.old.words ≡ [] }
+    requires no_offsets { code.old.offsets ≡ [] }
+    requires word_room { flat_bulk p.now.funcs ≤ code.old.word_room }
+    requires function_room { length p.now.funcs ≤ code.old.function_room }
+    ensures count { length code.new.offsets ≡ length p.now.funcs }
+    ensures offsets { All (IsOffset (length code.new.words)) code.new.offsets }
+    ensures entries { AllDescribed p.now.funcs needs.now (entries_of code.new.offsets needs.now 0 p.now.funcs) }
+    ensures words { length code.new.words ≤ flat_bulk p.now.funcs }
+    ensures shows { ShowsProgram p.now.funcs (entries_of code.new.offsets needs.now 0 p.now.funcs) code.new.words }
 {
-    let called = called_flags(alloc, funcs)?;
-    coded_by(alloc, funcs, called.as_slice())
+    code_shows_its_program();
+    write_into(p.funcs.as_slice(), code);
 }
 
-// The same by flags that say which functions are called.
-fn coded_by(alloc: Global, funcs: &[FlatFunc], called: &[bool]) -> Result<(Code, Numbers), NoMemory>
-    requires can_write { CanWrite 1048576 funcs.now }
-    requires called { AreCalled called.now funcs.now }
-    ensures code { IfOk result (λ c. c.0.words ≡ map item_word (program_items (aimed (addresses funcs.now)) forgets_none funcs.now 0 funcs.now)) }
-    ensures fit { IfOk result (λ _. AllFit (program_items (aimed (addresses funcs.now)) forgets_none funcs.now 0 funcs.now)) }
-    ensures offsets { IfOk result (λ c. c.1.numbers ≡ entry_offsets funcs.now) }
+// Writes the code of functions, and the offsets of their entries.
+fn write_into(funcs: &[FlatFunc], code: &mut CodeBuffer)
+    requires can_write { CanWrite code.old.word_room funcs.now }
+    requires no_words { code.old.words ≡ [] }
+    requires no_offsets { code.old.offsets ≡ [] }
+    requires word_room { flat_bulk funcs.now ≤ code.old.word_room }
+    requires function_room { length funcs.now ≤ code.old.function_room }
+    ensures code { code.new.words ≡ map item_word (program_items (aimed (addresses funcs.now)) forgets_none funcs.now 0 funcs.now) }
+    ensures fit { AllFit (program_items (aimed (addresses funcs.now)) forgets_none funcs.now 0 funcs.now) }
+    ensures offsets { code.new.offsets ≡ entry_offsets funcs.now }
 {
-    let mut lengths = Numbers::with_room(alloc, MOST_WORDS)?;
-    let mut targets = Numbers::with_room(alloc, funcs.len())?;
-    let mut offsets = Numbers::with_room(alloc, funcs.len())?;
-    let words = place_functions(&mut targets, &mut offsets, &mut lengths, called, funcs);
-    let mut code = Code::with_room(alloc, words)?;
-    write_functions(&mut code, targets.as_slice(), &mut lengths, called, funcs);
-    Ok((code, offsets))
+    code.targets.clear();
+    flag_called(&mut code.called, funcs);
+    let called = code.called.as_slice();
+    place_functions(
+        &mut code.targets,
+        &mut code.offsets,
+        &mut code.lengths,
+        called,
+        funcs,
+    );
+    let targets = code.targets.as_slice();
+    write_functions(&mut code.code, targets, &mut code.lengths, called, funcs);
+}
+
+// A buffer with room for the code of functions.
+fn buffer_for(alloc: Global, funcs: &[FlatFunc]) -> Result<CodeBuffer, NoMemory>
+    requires { flat_bulk funcs.now ≤ most_words Two }
+    ensures no_words { IfOk result (λ b. b.words ≡ []) }
+    ensures no_offsets { IfOk result (λ b. b.offsets ≡ []) }
+    ensures word_room { IfOk result (λ b. flat_bulk funcs.now ≤ b.word_room) }
+    ensures function_room { IfOk result (λ b. length funcs.now ≤ b.function_room) }
+{
+    CodeBuffer::with_room(alloc, most_words(funcs), funcs.len() as u32, 0)
 }
 
 // The entries of functions, by the offsets and needs of all of them.

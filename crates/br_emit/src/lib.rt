@@ -22,11 +22,12 @@ mod numbers;
 mod places;
 mod programs;
 mod registers;
+mod room;
 mod straight;
 mod writing;
 
 pub use buffer::CodeBuffer;
-pub use emission::emit;
+pub use emission::{emit, emit_into};
 pub use laws::{called_entries_show_calls, code_shows_its_program, direct_entries_show_calls};
 
 #[cfg(test)]

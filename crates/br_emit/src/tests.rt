@@ -5,7 +5,7 @@ use crate::CodeBuffer;
 use crate::code::Code;
 use crate::constant_tables::table;
 use crate::framing::{entry, exit, move_stack, open, save};
-use crate::jumps::{back_words, loop_back, over, over_words};
+use crate::jumps::{back_words, call, if_head, if_middle, loop_back, loop_head, over, over_words};
 use crate::straight::{constant, copy, load_op, operation, place, store_op};
 use br_flatimp::{Cond, Operand, Rel};
 use br_rv32im::Ins;
@@ -157,6 +157,36 @@ fn jumps_at_the_edge_of_their_reach(rt: HostRuntime) -> Result<(), Fail> {
     assert_eq!(rt;
         (back_words(1024), back_words(1025), back_words(262_144)),
         (1, 2, 3)
+    );
+    Ok(())
+}
+
+#[test]
+fn conditionals_loops_and_calls(rt: HostRuntime) -> Result<(), Fail> {
+    let mut code = Code::with_room(rt.alloc(), 16)?;
+    let test = Cond::Compare(Rel::Ltu, 5, 6);
+    // bgeu x5, x6, 4092
+    if_head(&mut code, test, 1022, 0);
+    // bltu x5, x6, 8; jal x0, 4096
+    if_head(&mut code, test, 1023, 0);
+    // bltu x5, x6, 8; jal x0, 4100
+    if_head(&mut code, test, 1024, 0);
+    // bne x7, x0, 8
+    if_head(&mut code, Cond::NonZero(7), 0, 1);
+    // beq x7, x0, 12; jal x0, 8
+    if_head(&mut code, Cond::NonZero(7), 1, 1);
+    if_middle(&mut code, 1, 1);
+    // jal x0, 12
+    loop_head(&mut code, 2);
+    // lui x1, 0x80301; jalr x1, -2048(x1)
+    call(&mut code, 0x80300800);
+    assert_eq!(rt;
+        code.words(),
+        [
+            0x7e62fee3, 0x0062e463, 0x0000106f, 0x0062e463, 0x0040106f, 0x00039463, 0x00038663,
+            0x0080006f, 0x00c0006f, 0x803010b7, 0x800080e7,
+        ]
+        .as_slice()
     );
     Ok(())
 }

@@ -1,5 +1,4 @@
 use Rattle.std.proofs.Common.{◌+◌, ◌++◌, ◌∷◌, [], ap, ◌∙◌}
-use Rattle.br_emit.specs.Emitted.{entry_of}
 use Rattle.br_emit.proofs.Imaged.{counts_here, entries_step}
 use Rattle.br_emit.proofs.emission.entries.Goals as goal
 

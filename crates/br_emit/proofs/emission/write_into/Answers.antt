@@ -1,0 +1,122 @@
+use Rattle.std.proofs.Common.{◌≡◌, ◌+◌, ◌++◌, [], map, length, ap, subst, ◌∙◌, arith}
+use Rattle.br_emit.specs.Code.{AllFit, item_word}
+use Rattle.br_emit.specs.Sizes.{begins, entries}
+use Rattle.br_emit.specs.Ready.{aimed}
+use Rattle.br_emit.specs.Written.{rest_items, flagged, address_of, offset_of}
+use Rattle.br_emit.proofs.Flags.{flags_are}
+use Rattle.br_emit.proofs.Imaged.{writable_more, words_few, plan, offsets_are}
+use Rattle.br_emit.proofs.emission.write_into.Goals as goal
+
+pub place_functions-requires-clause-targets : goal.place_functions-requires-clause-targets
+place_functions-requires-clause-targets c =
+    let room = c.code.invariant.2 in
+    let enough = c.requires.function_room in
+    let same = ap (λ v. v.function_room) c.code.view_is in
+    let cleared = ap (λ q. q.room) c.clear.ensures in
+    omega (arith, room, enough, same, cleared)
+
+pub place_functions-requires-clause-offsets : goal.place_functions-requires-clause-offsets
+place_functions-requires-clause-offsets c =
+    let enough = c.requires.function_room in
+    let same = ap (λ v. v.function_room) c.code.view_is in
+    omega (arith, enough, same)
+
+pub place_functions-requires-clause-writable : goal.place_functions-requires-clause-writable
+place_functions-requires-clause-writable c =
+    let room = c.code.invariant.0 in
+    let same = ap (λ v. v.word_room) c.code.view_is in
+    writable_more c.args.code.now.word_room (c.code.inside.lengths.room + length c.code.inside.lengths.numbers) c.args.funcs.now (omega (arith, room, same)) c.requires.can_write.each
+
+pub place_functions-requires-clause-few : goal.place_functions-requires-clause-few
+place_functions-requires-clause-few c =
+    let fs = c.args.funcs.now in
+    let flags = c.as_slice-called.result.now in
+    words_few fs flags 1048576 (flags_are fs flags (c.as_slice-called.ensures.value ∙ c.flag_called.ensures.flags)) c.requires.can_write.few
+
+pub write_functions-requires-clause-targets : goal.write_functions-requires-clause-targets
+write_functions-requires-clause-targets c =
+    let fs = c.args.funcs.now in
+    let flags = c.as_slice-called.result.now in
+    let called = flags_are fs flags (c.as_slice-called.ensures.value ∙ c.flag_called.ensures.flags) in
+    let more = map address_of (begins (flagged flags) 0 0 fs) in
+    let targets = c.as_slice-targets.ensures ∙ ap (λ q. q.numbers) c.place_functions.ensures.targets ∙ ap (λ q. q.numbers ++ more) c.clear.ensures in
+    (plan fs flags c.as_slice-targets.result.now called c.requires.can_write.few targets).reach
+
+pub write_functions-requires-clause-writable : goal.write_functions-requires-clause-writable
+write_functions-requires-clause-writable c =
+    let room = c.code.invariant.0 in
+    let same = ap (λ v. v.word_room) c.code.view_is in
+    let kept = c.place_functions.ensures.kept in
+    writable_more c.args.code.now.word_room (c.place_functions.new.lengths.room + length c.place_functions.new.lengths.numbers) c.args.funcs.now (omega (arith, room, same, kept)) c.requires.can_write.each
+
+pub write_functions-requires-clause-room : goal.write_functions-requires-clause-room
+write_functions-requires-clause-room c =
+    let fs = c.args.funcs.now in
+    let flags = c.as_slice-called.result.now in
+    let called = flags_are fs flags (c.as_slice-called.ensures.value ∙ c.flag_called.ensures.flags) in
+    let more = map address_of (begins (flagged flags) 0 0 fs) in
+    let targets = c.as_slice-targets.ensures ∙ ap (λ q. q.numbers) c.place_functions.ensures.targets ∙ ap (λ q. q.numbers ++ more) c.clear.ensures in
+    let words = (plan fs flags c.as_slice-targets.result.now called c.requires.can_write.few targets).words in
+    let few = words_few fs flags c.args.code.now.word_room called c.requires.word_room in
+    let same = ap (λ v. v.word_room) c.code.view_is in
+    omega (arith, words, few, same)
+
+pub write_functions-requires-clause-few : goal.write_functions-requires-clause-few
+write_functions-requires-clause-few c =
+    let fs = c.args.funcs.now in
+    let flags = c.as_slice-called.result.now in
+    let called = flags_are fs flags (c.as_slice-called.ensures.value ∙ c.flag_called.ensures.flags) in
+    let more = map address_of (begins (flagged flags) 0 0 fs) in
+    let targets = c.as_slice-targets.ensures ∙ ap (λ q. q.numbers) c.place_functions.ensures.targets ∙ ap (λ q. q.numbers ++ more) c.clear.ensures in
+    let words = (plan fs flags c.as_slice-targets.result.now called c.requires.can_write.few targets).words in
+    let few = words_few fs flags 1048576 called c.requires.can_write.few in
+    omega (arith, words, few)
+
+pub returns-clause-code : goal.returns-clause-code
+returns-clause-code c =
+    let fs = c.args.funcs.now in
+    let flags = c.as_slice-called.result.now in
+    let called = flags_are fs flags (c.as_slice-called.ensures.value ∙ c.flag_called.ensures.flags) in
+    let more = map address_of (begins (flagged flags) 0 0 fs) in
+    let targets = c.as_slice-targets.ensures ∙ ap (λ q. q.numbers) c.place_functions.ensures.targets ∙ ap (λ q. q.numbers ++ more) c.clear.ensures in
+    let items = (plan fs flags c.as_slice-targets.result.now called c.requires.can_write.few targets).items in
+    let written = map item_word (rest_items (aimed c.as_slice-targets.result.now) (flagged flags) 0 fs) in
+    let empty : c.code.inside.code.words ≡ [] = ap (λ v. v.words) c.code.view_is ∙ c.requires.no_words in
+    ap (λ q. q.words) c.write_functions.ensures.code ∙ ap (λ q. q ++ written) empty ∙ ap (map item_word) items
+
+pub returns-clause-fit : goal.returns-clause-fit
+returns-clause-fit c =
+    let fs = c.args.funcs.now in
+    let flags = c.as_slice-called.result.now in
+    let called = flags_are fs flags (c.as_slice-called.ensures.value ∙ c.flag_called.ensures.flags) in
+    let more = map address_of (begins (flagged flags) 0 0 fs) in
+    let targets = c.as_slice-targets.ensures ∙ ap (λ q. q.numbers) c.place_functions.ensures.targets ∙ ap (λ q. q.numbers ++ more) c.clear.ensures in
+    subst AllFit (plan fs flags c.as_slice-targets.result.now called c.requires.can_write.few targets).items c.write_functions.ensures.fit
+
+pub returns-clause-offsets : goal.returns-clause-offsets
+returns-clause-offsets c =
+    let fs = c.args.funcs.now in
+    let flags = c.as_slice-called.result.now in
+    let called = flags_are fs flags (c.as_slice-called.ensures.value ∙ c.flag_called.ensures.flags) in
+    let more = map offset_of (entries (flagged flags) 0 0 fs) in
+    let empty : c.code.inside.offsets.numbers ≡ [] = ap (λ v. v.offsets) c.code.view_is ∙ c.requires.no_offsets in
+    ap (λ q. q.numbers) c.place_functions.ensures.offsets ∙ ap (λ q. q ++ more) empty ∙ offsets_are fs flags called
+
+pub invariant_of-code : goal.invariant_of-code
+invariant_of-code c =
+    let words = c.code.invariant.0 in
+    let flags = c.code.invariant.1 in
+    let places = c.code.invariant.2 in
+    let written = ap (λ q. q.room) c.write_functions.ensures.code in
+    let kept = c.write_functions.ensures.kept in
+    let kept2 = c.place_functions.ensures.kept in
+    let capacity = c.flag_called.ensures.capacity in
+    let offsets = ap (λ q. q.room) c.place_functions.ensures.offsets in
+    let fs = c.args.funcs.now in
+    let called = flagged c.as_slice-called.result.now in
+    let more = map address_of (begins called 0 0 fs) in
+    let room = ap (λ q. q.room) c.place_functions.ensures.targets in
+    let long = ap (λ q. length q.numbers) c.place_functions.ensures.targets in
+    let cleared = ap (λ q. q.room) c.clear.ensures in
+    let none = ap (λ q. length (q.numbers ++ more)) c.clear.ensures in
+    (omega (arith, words, written, kept, kept2), omega (arith, flags, capacity, offsets), omega (arith, places, room, long, cleared, none, offsets))
