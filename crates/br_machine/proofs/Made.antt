@@ -1,6 +1,6 @@
 -- Which pages a store makes, and which pages are made at the start.
 use Rattle.std.proofs.Common.{◌≡◌, inl, inr, ℕ, ◌+◌, ◌-◌, ◌*◌, ◌%◌, ◌<◌, ◌≤◌, List, [], ◌∷◌, ◌++◌, length, Option, Some, None, Bool, true, false, refl, sym, ap, subst, ◌∙◌, arith}
-use Rattle.std.specs.Prelude.{◌||◌, ◌&&◌, ◌==◌, if◌then◌else◌, slice_index_or}
+use Rattle.std.specs.Prelude.{◌||◌, ◌&&◌, ◌==◌, if◌then◌else◌, slice_index_or, is_none}
 use Rattle.std.proofs.lemmas.Bool.{cases_lt, eqb-true}
 use Rattle.std.proofs.lemmas.List.{get_or_append_left, get_or-append-add}
 use Rattle.std.proofs.lemmas.Bool.Decides.{nat_tests}
@@ -23,6 +23,19 @@ pub stored_pages : (l : Layout) (made : List Bool) (a n page : ℕ) → page < l
 stored_pages l made a n page inside low =
     with_made-is n made (ram_base l) (a - ram_base l) page inside
     ∙ ap (λ b. meet b n (page_base l page) page_size || slice_index_or made page false) (let e : ram_base l + (a - ram_base l) ≡ a = omega arith in e)
+
+-- a store in RAM that touches no byte of the code breaks no rule
+pub no_rule_broken : (l : Layout) (words a n : ℕ) (b : Bool) → in_ram l a n ≡ true → meet a n (code_base l) (4 * words) ≡ false
+    → (b && is_none (store_trap l words a n)) ≡ b
+no_rule_broken l words a n b there free =
+    ap (λ t. b && is_none t)
+    (ap (λ t. if t then (if meet a n (code_base l) (4 * words) then Some CodeWrite else None) else device_trap a n) there
+    ∙ ap (λ t. if t then Some CodeWrite else None) free)
+    ∙ and_true b
+  where
+    and_true : (x : Bool) → (x && true) ≡ x
+    and_true true = refl
+    and_true false = refl
 
 -- a store outside RAM that breaks no rule is of a device word, which is below RAM
 device_store_low : (l : Layout) (words a n : ℕ) → in_ram l a n ≡ false → store_trap l words a n ≡ None → a + n ≤ 0x10025000

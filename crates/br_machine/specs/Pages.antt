@@ -1,5 +1,5 @@
 -- The pages of RAM, of 4,096 bytes each, and which of them are made. Page 0 begins at RAM's low end.
-use Rattle.std.specs.Prelude.{◌≡◌, ℕ, ◌+◌, ◌*◌, ◌/◌, ◌<◌, ◌≤◌, Bool, false, ◌&&◌, IsSome, List, length, slice_index_or, Option, Some, None}
+use Rattle.std.specs.Prelude.{◌≡◌, ℕ, ◌+◌, ◌*◌, ◌/◌, ◌<◌, ◌≤◌, Bool, false, ◌&&◌, is_none, IsSome, List, length, slice_index_or, Option, Some, None}
 use Rattle.std.specs.FinMap as map
 use Rattle.br_bytes.specs.Memory.{Memory}
 use Rattle.br_words.specs.declared.layout.Layout.{Layout}
@@ -58,8 +58,7 @@ stores_in Ecall s page = false
 
 -- an instruction stores a byte of a page, unless it breaks a rule
 abbrev pub obeyed_in : Ins → Option Trap → MachineState → ℕ → Bool
-obeyed_in i (Some trap) s page = false
-obeyed_in i None s page = stores_in i s page
+obeyed_in i trap s page = stores_in i s page && is_none trap
 
 -- the instruction at pc stores a byte of a page, if there is one
 abbrev pub executed_in : Option Ins → MachineState → ℕ → Bool

@@ -24,10 +24,14 @@ fetched s = number_of (bytes_from s.ram (s.pc - ram_base s.layout) 4)
 abbrev pub trapped : Trap → MachineState → MachineState × Stepped
 trapped trap s = (s, Trapped trap s.pc)
 
+-- what is done unless a rule is broken
+abbrev pub unless : Option Trap → MachineState × Stepped → MachineState → MachineState × Stepped
+unless (Some trap) done s = trapped trap s
+unless None done s = done
+
 -- an instruction, unless it breaks a rule
 abbrev pub obey : Ins → Option Trap → MachineState → Option ℕ → MachineState × Stepped
-obey i (Some trap) s next = trapped trap s
-obey i None s next = effect i s next
+obey i trap s next = unless trap (effect i s next) s
 
 -- the instruction at pc, unless there is none
 abbrev pub execute : Option Ins → MachineState → Option ℕ → MachineState × Stepped

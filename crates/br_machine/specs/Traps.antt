@@ -1,6 +1,6 @@
 -- Which rules an instruction would break at a moment. A word that is no instruction and a pc outside
 -- the code are tested before.
-use Rattle.std.specs.Prelude.{ℕ, ◌+◌, ◌*◌, ◌/◌, ◌%◌, Bool, ◌&&◌, nat_lt, nat_le, min, max, ◌==◌, if◌then◌else◌, ℤ, Option, Some, None}
+use Rattle.std.specs.Prelude.{◌≡◌, ◌⊎◌, ℕ, ◌+◌, ◌*◌, ◌/◌, ◌%◌, Bool, ◌&&◌, nat_lt, nat_le, min, max, ◌==◌, if◌then◌else◌, ℤ, Option, Some, None}
 use Rattle.br_words.specs.Device.{in_device_window}
 use Rattle.br_words.specs.declared.layout.Layout.{Layout}
 use Rattle.br_words.specs.Layout.{code_base, ram_base, ram_end}
@@ -28,6 +28,10 @@ abbrev pub store_size : StoreOp → ℕ
 store_size Sb = 1
 store_size Sh = 2
 store_size Sw = 4
+
+-- a load and a store move 1, 2 or 4 bytes
+abbrev pub IsMoved : ℕ → Type 0
+IsMoved n = (n ≡ 1) ⊎ (n ≡ 2) ⊎ (n ≡ 4)
 
 -- the address in a register and an immediate
 abbrev pub address : MachineState → ℕ → ℤ → ℕ

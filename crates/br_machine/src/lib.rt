@@ -12,7 +12,6 @@ mod running;
 mod start;
 mod step;
 mod stepped;
-mod table;
 mod trace;
 mod traps;
 

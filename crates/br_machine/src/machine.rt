@@ -4,13 +4,12 @@ ghost use Rattle.std.specs.Prelude.{◌≡◌, ℕ, ◌+◌, ◌-◌, ◌*◌, �
 ghost use Rattle.br_words.specs.Layout.{ram_base, ram_end, most_words};
 ghost use Rattle.br_bytes.specs.Number.{number_of, low_bytes};
 ghost use Rattle.br_machine.specs.State.{MachineState, IsMachine, code_place, ram_size, register, with_register, byte_of, bytes_from, with_bytes_from};
-ghost use Rattle.br_machine.specs.Traps.{load_size, store_size};
-ghost use Rattle.br_machine.specs.Effects.{at_pc, loaded};
+ghost use Rattle.br_machine.specs.Traps.{IsMoved};
+ghost use Rattle.br_machine.specs.Effects.{at_pc};
 ghost use Rattle.br_machine.specs.Pages.{IsPaged, is_made, page_count};
 ghost use Rattle.br_machine.specs.Kept.{with_made};
 
 use crate::main_memory::Ram;
-use br_rv32im::{LoadOp, StoreOp};
 use br_words::Layout;
 use std::marker::Model;
 
@@ -175,28 +174,31 @@ impl Machine {
         self.pc = a;
     }
 
-    /// What a load makes of the bytes from a place of RAM on, counted from its low end.
-    pub(crate) fn loaded(&self, op: LoadOp, place: u32) -> u32
-        requires { place + load_size op ≤ ram_size self.now.state.layout }
-        ensures { result ≡ loaded op (number_of (bytes_from self.now.state.ram place (load_size op))) }
+    /// The number of the `n` bytes from a place of RAM on, counted from its low end, `n` 1, 2 or 4.
+    pub(crate) fn number_at(&self, place: u32, n: u32) -> u32
+        requires size { IsMoved n }
+        requires inside { place + n ≤ ram_size self.now.state.layout }
+        ensures value { result ≡ number_of (bytes_from self.now.state.ram place n) }
+        ensures small { result < 2 ^ (8 * n) }
     {
-        self.ram.loaded(op, place)
+        self.ram.number_at(place, n)
     }
 
-    /// The low bytes of a number are put from a place on, where none is the code's, and the pages
-    /// that they are in are made.
-    pub(crate) fn store_at(&mut self, op: StoreOp, place: u32, v: u32)
-        requires inside { place + store_size op ≤ ram_size self.old.state.layout }
-        requires apart { min (place + store_size op) (code_place self.old.state.layout + 4 * self.old.state.code_words)
+    /// The `n` low bytes of a number are put from a place on, `n` 1, 2 or 4, where none is the code's,
+    /// and the pages that they are in are made.
+    pub(crate) fn set_number(&mut self, place: u32, n: u32, v: u32)
+        requires size { IsMoved n }
+        requires inside { place + n ≤ ram_size self.old.state.layout }
+        requires apart { min (place + n) (code_place self.old.state.layout + 4 * self.old.state.code_words)
             ≤ max place (code_place self.old.state.layout) }
         ensures { self.new ≡ record {
           state = record self.old.state {
-            ram = with_bytes_from self.old.state.ram place (low_bytes (store_size op) v);
+            ram = with_bytes_from self.old.state.ram place (low_bytes n v);
           };
-          made = with_made self.old.made place (store_size op);
+          made = with_made self.old.made place n;
         } }
     {
-        self.ram.store(op, place, v);
+        self.ram.set_number(place, n, v);
         self.ram.well_formed();
     }
 }

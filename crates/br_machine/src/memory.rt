@@ -3,14 +3,10 @@
 ghost use Rattle.std.specs.Prelude.{◌≡◌, ◌+◌, ◌*◌, ◌^◌, ◌<◌, ◌≤◌, min, max, length};
 ghost use Rattle.br_bytes.specs.Number.{number_of, low_bytes};
 ghost use Rattle.br_machine.specs.State.{bytes_from, code_place, ram_size, with_bytes_from};
-ghost use Rattle.br_machine.specs.Traps.{load_size, store_size};
-ghost use Rattle.br_machine.specs.Effects.{loaded};
+ghost use Rattle.br_machine.specs.Traps.{IsMoved};
 ghost use Rattle.br_machine.specs.Kept.{with_made};
 
 use crate::main_memory::Ram;
-use crate::table::by_operation;
-use br_rv32im::{LoadOp, StoreOp};
-use br_words::sext;
 
 impl Ram {
     fn byte_at(&self, place: u32) -> u32
@@ -36,17 +32,17 @@ impl Ram {
         self.half_at(place) + 65536 * self.half_at(place + 2)
     }
 
-    /// What a load makes of the bytes from a place on.
-    pub(crate) fn loaded(&self, op: LoadOp, place: u32) -> u32
-        requires { place + load_size op ≤ ram_size self.now.layout }
-        ensures { result ≡ loaded op (number_of (bytes_from self.now.bytes place (load_size op))) }
+    /// The number of the `n` bytes from a place on, `n` 1, 2 or 4.
+    pub(crate) fn number_at(&self, place: u32, n: u32) -> u32
+        requires size { IsMoved n }
+        requires inside { place + n ≤ ram_size self.now.layout }
+        ensures value { result ≡ number_of (bytes_from self.now.bytes place n) }
+        ensures small { result < 2 ^ (8 * n) }
     {
-        by_operation! { LoadOp, op;
-            Lb => sext::<8>(self.byte_at(place)),
-            Lh => sext::<16>(self.half_at(place)),
-            Lw => self.word_at(place),
-            Lbu => self.byte_at(place),
-            Lhu => self.half_at(place),
+        match n {
+            1 => self.byte_at(place),
+            2 => self.half_at(place),
+            _ => self.word_at(place),
         }
     }
 
@@ -76,21 +72,22 @@ impl Ram {
         self.set_half(place + 2, v / 65536);
     }
 
-    /// The low bytes of a number are put from a place on, where none is the code's, and the pages
-    /// that they are in are made.
-    pub(crate) fn store(&mut self, op: StoreOp, place: u32, v: u32)
-        requires inside { place + store_size op ≤ ram_size self.old.layout }
-        requires apart { min (place + store_size op) (code_place self.old.layout + 4 * length self.old.code)
+    /// The `n` low bytes of a number are put from a place on, `n` 1, 2 or 4, where none is the code's,
+    /// and the pages that they are in are made.
+    pub(crate) fn set_number(&mut self, place: u32, n: u32, v: u32)
+        requires size { IsMoved n }
+        requires inside { place + n ≤ ram_size self.old.layout }
+        requires apart { min (place + n) (code_place self.old.layout + 4 * length self.old.code)
             ≤ max place (code_place self.old.layout) }
         ensures { self.new ≡ record self.old {
-          bytes = with_bytes_from self.old.bytes place (low_bytes (store_size op) v);
-          made = with_made self.old.made place (store_size op);
+          bytes = with_bytes_from self.old.bytes place (low_bytes n v);
+          made = with_made self.old.made place n;
         } }
     {
-        by_operation! { StoreOp, op;
-            Sb => self.set_byte(place, v),
-            Sh => self.set_half(place, v),
-            Sw => self.set_word(place, v),
+        match n {
+            1 => self.set_byte(place, v),
+            2 => self.set_half(place, v),
+            _ => self.set_word(place, v),
         }
     }
 }
