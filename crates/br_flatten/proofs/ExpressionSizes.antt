@@ -1,5 +1,5 @@
 -- The sizes of the statements of expressions.
-use Rattle.std.proofs.Common.{◌≡◌, ℕ, suc, ◌+◌, ◌-◌, ◌<◌, ◌≤◌, max, Bool, true, false, if◌then◌else◌, ◌&&◌, List, [], ◌∷◌, ◌++◌, map, length, Option, Some, None, refl, sym, ap, subst, arith, pos}
+use Rattle.std.proofs.Common.{◌≡◌, ℕ, suc, ◌+◌, ◌-◌, ◌<◌, ◌≤◌, max, Bool, true, false, if◌then◌else◌, ◌&&◌, List, [], ◌∷◌, ◌++◌, map, length, Option, Some, None, refl, sym, ap, subst, arith, ℤ, pos}
 use Rattle.std.proofs.lemmas.List.{length-append}
 use Rattle.std.proofs.lemmas.List.Sums.{sum-map, sum_by-cons}
 use Rattle.br_words.specs.declared.size.Size.{Size}
@@ -21,10 +21,13 @@ use Rattle.br_flatimp.specs.declared.program.Stmt.TheViews.{roll-Stmt}
 use Rattle.br_flatimp.specs.declared.program.FlatFunc.{FlatFunc}
 use Rattle.br_flatimp.specs.Parts.{test_names}
 use Rattle.br_flatimp.specs.Sizes.{words_for}
+use Rattle.br_flatimp.specs.WellFormed.{fits_operation}
+use Rattle.br_flatten.specs.Constants.{constant, left_constant}
 use Rattle.br_flatten.specs.Tests.{Test, relation, asks_zero, zero_before, turned, next_turned, negation}
-use Rattle.br_flatten.specs.Flatten.{above, number, is_listed, lists_step, lists_expression, lists_expressions, Flat, place, next, code, codes_of, places_of, compared_test, tested_itself, operation, expression_step, expression}
+use Rattle.br_flatten.specs.Flatten.{above, number, is_listed, lists_step, lists_expression, lists_expressions, Flat, place, next, code, codes_of, places_of, compared_test, tested_itself, with_constant, by_constants, operation, expression_step, expression}
 use Rattle.br_flatten.specs.Places.{variables_step, expression_variables, expressions_variables}
 use Rattle.br_flatten.proofs.Numbers.{and-first, and-second, number-below}
+use Rattle.br_flatten.proofs.Literals.{stands, exchanged}
 use Rattle.br_flatten.proofs.Fine.{Fine, fine-none, fine-append, fine-within, fine-one, fine-if}
 
 -- An expression's statements, where its variables and a weight make its bulk. The weight bounds its
@@ -121,6 +124,17 @@ table-sized fs names lists a vs flat e size bytes = record {
       (fine-within fs (free + e.weight) a 0 top a 0 [] (code flat free) (omega arith) (omega arith) (omega arith) c.body) last);
 }
 
+constant-fine : (fs : List FlatFunc) (n : ℕ) (lists : Bool) (size : ℕ) (vs : List Name) (one : Flat) (e : Sized fs n lists size vs one) (op : BinOp) (c : ℤ) → fits_operation op c ≡ true
+    → (x free top total : ℕ) → lists ≡ true → n ≤ free → suc x ≤ top → free + e.weight ≤ top → size + 1 ≤ total → Fine fs top total 0 [] (with_constant op one c x free)
+constant-fine fs n lists size vs one e op c fits x free top total listed le inside wide more =
+    let k = coded fs n lists size vs one e listed free le in
+    let below = k.below in
+    let y : Stmt-F Stmt = Stmt-F.Op x op (place one.variable free) (operand.Const c) in
+    let last = fine-one fs top 1 0 [] y (omega (arith, below, inside, wide)) (omega arith) (omega arith) refl (ap (λ b. b && true) fits) in
+    fine-within fs top (size + 1) 0 top total 0 [] (code one free ++ roll-Stmt y ∷ []) (omega arith) more (omega arith)
+    (fine-append fs top size 1 0 [] [] (code one free) (roll-Stmt y ∷ [])
+    (fine-within fs (free + e.weight) size 0 top size 0 [] (code one free) wide (omega arith) (omega arith) k.body) last)
+
 op-sized : (fs : List FlatFunc) (names : List Name) (lists more : Bool) (a b : ℕ) (vs ws : List Name) (one two : Flat) → Sized fs (length names) lists a vs one → Sized fs (length names) more b ws two → (op : BinOp)
     → Sized fs (length names) (lists && more) (1 + a + b) (vs ++ ws) (expression_step names (Expr-F.Op op one two))
 op-sized fs names lists more a b vs ws one two e f op = record {
@@ -128,22 +142,32 @@ op-sized fs names lists more a b vs ws one two e f op = record {
   split = let split = e.split in let split' = f.split in let len = length-append vs ws in omega (arith, split, split', len);
   variable = λ y e listed. none_is_not y e;
   some = λ e. omega arith;
-  into = λ x free listed le.
-      let c = coded fs (length names) lists a vs one e (and-first lists more listed) free le in
-      let below = c.below in
-      let after = c.after in
-      let grows = c.grows in
-      let onward = next one.variable free in
-      let d = coded fs (length names) more b ws two f (and-second lists more listed) onward (omega (arith, le, grows)) in
-      let below' = d.below in
-      let top = max (suc x) (free + (1 + e.weight + f.weight - 1)) in
-      let y : Stmt-F Stmt = Stmt-F.Op x op (place one.variable free) (operand.Name (place two.variable onward)) in
-      let last = fine-one fs top 1 0 [] y (omega (arith, below, below', after)) (omega arith) (omega arith) refl refl in
-      let rest = fine-append fs top b 1 0 [] [] (code two onward) (roll-Stmt y ∷ []) (fine-within fs (onward + f.weight) b 0 top b 0 [] (code two onward) (omega (arith, after)) (omega arith) (omega arith) d.body) last in
-      fine-within fs top (a + (b + 1)) 0 top (1 + a + b) 0 [] (code one free ++ (code two onward ++ roll-Stmt y ∷ [])) (omega arith) (omega arith) (omega arith)
-      (fine-append fs top a (b + 1) 0 [] [] (code one free) (code two onward ++ roll-Stmt y ∷ [])
-      (fine-within fs (free + e.weight) a 0 top a 0 [] (code one free) (omega arith) (omega arith) (omega arith) c.body) rest);
+  into = by (constant op two.literal) (left_constant op one.literal) refl refl;
 }
+  where
+    by : (c d : Option ℤ) → constant op two.literal ≡ c → left_constant op one.literal ≡ d → (x free : ℕ) → (lists && more) ≡ true → length names ≤ free
+        → Fine fs (max (suc x) (free + (1 + e.weight + f.weight - 1))) (1 + a + b) 0 [] (by_constants c d op one two x free)
+    by (Some c) d is is' x free listed le =
+        let top = max (suc x) (free + (1 + e.weight + f.weight - 1)) in
+        constant-fine fs (length names) lists a vs one e op c (stands op two.literal c is).fits x free top (1 + a + b) (and-first lists more listed) le (omega arith) (omega arith) (omega arith)
+    by None (Some d) is is' x free listed le =
+        let top = max (suc x) (free + (1 + e.weight + f.weight - 1)) in
+        constant-fine fs (length names) more b ws two f op d (exchanged op one.literal d is').stands.fits x free top (1 + a + b) (and-second lists more listed) le (omega arith) (omega arith) (omega arith)
+    by None None is is' x free listed le =
+        let c = coded fs (length names) lists a vs one e (and-first lists more listed) free le in
+        let below = c.below in
+        let after = c.after in
+        let grows = c.grows in
+        let onward = next one.variable free in
+        let d = coded fs (length names) more b ws two f (and-second lists more listed) onward (omega (arith, le, grows)) in
+        let below' = d.below in
+        let top = max (suc x) (free + (1 + e.weight + f.weight - 1)) in
+        let y : Stmt-F Stmt = Stmt-F.Op x op (place one.variable free) (operand.Name (place two.variable onward)) in
+        let last = fine-one fs top 1 0 [] y (omega (arith, below, below', after)) (omega arith) (omega arith) refl refl in
+        let rest = fine-append fs top b 1 0 [] [] (code two onward) (roll-Stmt y ∷ []) (fine-within fs (onward + f.weight) b 0 top b 0 [] (code two onward) (omega (arith, after)) (omega arith) (omega arith) d.body) last in
+        fine-within fs top (a + (b + 1)) 0 top (1 + a + b) 0 [] (code one free ++ (code two onward ++ roll-Stmt y ∷ [])) (omega arith) (omega arith) (omega arith)
+        (fine-append fs top a (b + 1) 0 [] [] (code one free) (code two onward ++ roll-Stmt y ∷ [])
+        (fine-within fs (free + e.weight) a 0 top a 0 [] (code one free) (omega arith) (omega arith) (omega arith) c.body) rest)
 
 -- ---- tests
 

@@ -1,11 +1,11 @@
 -- The statements of an expression set a name to its word where it has one, and change no other name but the
 -- temporaries that were free.
-use Rattle.std.proofs.Common.{◌≡◌, ◌≢◌, inl, inr, ℕ, suc, ◌<◌, ◌≤◌, ◌==◌, ◌&&◌, Bool, true, false, if◌then◌else◌, List, [], ◌∷◌, ◌++◌, length, Option, Some, None, refl, sym, ap, subst, ◌∙◌, append_assoc, arith, pos}
+use Rattle.std.proofs.Common.{◌≡◌, ◌≢◌, inl, inr, ℕ, suc, ◌<◌, ◌≤◌, ◌==◌, ◌&&◌, Bool, true, false, if◌then◌else◌, List, [], ◌∷◌, ◌++◌, length, Option, Some, None, refl, sym, ap, subst, ◌∙◌, append_assoc, arith, ℤ, pos}
 use Rattle.std.specs.Option.{option_map, option_and_then}
 use Rattle.br_words.specs.declared.size.Size.{Size}
 use Rattle.br_words.specs.declared.operation.BinOp.{BinOp}
 use Rattle.br_words.specs.Size.{size_of}
-use Rattle.br_words.specs.Words.{flag, value_of_op}
+use Rattle.br_words.specs.Words.{flag, wrapped, value_of_op}
 use Rattle.br_bytes.specs.Number.{number_of}
 use Rattle.br_bytes.specs.Memory.{Memory, get_number}
 use Rattle.br_bytes.specs.Buffers.{table_number}
@@ -26,9 +26,11 @@ use Rattle.br_flatimp.specs.Values.{Locals, with_local, moved, compared}
 use Rattle.br_flatimp.specs.Matches.{IsSameDefined}
 use Rattle.br_flatimp.specs.Runs.{State, Run, Callee, set_to}
 use Rattle.br_flatten.specs.Tests.{relation, asks_zero, negation}
-use Rattle.br_flatten.specs.Flatten.{number, is_listed, lists_step, lists_expression, Flat, place, next, unless_variable, code, compared_test, tested_itself, operation, expression_step, expression}
+use Rattle.br_flatten.specs.Constants.{constant, left_constant}
+use Rattle.br_flatten.specs.Flatten.{number, is_listed, lists_step, lists_expression, Flat, place, next, unless_variable, code, compared_test, tested_itself, with_constant, by_constants, operation, expression_step, expression}
 use Rattle.br_flatten.proofs.Numbers.{and-first, and-second, number-below, with-same, with-other, bytes-moved}
 use Rattle.br_flatten.proofs.Turns.{does, does-after, does-one}
+use Rattle.br_flatten.proofs.Literals.{stands, exchanged}
 use Rattle.br_flatten.proofs.Comparisons.{relation-value, zero_test, Tests, negation-tests}
 
 -- ---- what holds of an expression
@@ -216,27 +218,61 @@ operands names call lists more one two word other claim claim' op free s m v lis
       grows = omega (arith, grows, grows');
     }
 
+-- an operand in turn, and an operation on it and a constant
+constant-sets : (names : List Name) (call : Callee) (lists : Bool) (one : Flat) (word : source.Locals → Memory → Option ℕ) → Claim names call lists one word → (op : BinOp) (c : ℤ)
+    → (x free : ℕ) (s : State) (m : source.Locals) (a v : ℕ) → lists ≡ true → length names ≤ free → Holds names s.locals m → word m s.memory ≡ Some a → value_of_op op a (wrapped c) ≡ v
+    → Sets (does call (with_constant op one c x free)) s x v free
+constant-sets names call lists one word claim op c x free s m a v listed le holds is made =
+    let p = placed names call lists one word claim free s m a listed le holds is in
+    let u : State = record s { locals = p.locals } in
+    let y : Stmt-F Stmt = Stmt-F.Op x op (place one.variable free) (operand.Const c) in
+    sets_last (does call (code one free ++ roll-Stmt y ∷ [])) s p.locals x v free
+    (does-after call (code one free) (roll-Stmt y ∷ []) s u p.runs ∙ does-one call y u
+    ∙ ap (λ o. with_defined o u (λ a. Goes (set_to x (value_of_op op a (wrapped c)) u))) p.value
+    ∙ ap (λ r. Goes (set_to x r u)) made)
+    p.others
+
+some_same : (a b : ℕ) → Some a ≡ Some b → a ≡ b
+some_same a b e = cc e
+
 op-claim : (names : List Name) (call : Callee) (lists more : Bool) (one two : Flat) (word other : source.Locals → Memory → Option ℕ) → Claim names call lists one word → Claim names call more two other → (op : BinOp)
     → Claim names call (lists && more) (expression_step names (Expr-F.Op op one two)) (λ m k. both (value_of_op op) (word m k) (other m k))
 op-claim names call lists more one two word other claim claim' op = record {
   variable = λ y e listed. none_is_not y e;
   literal = λ k e m memory. none_is_not k e;
   variable_word = λ y e listed. none_is_not y e;
-  into = λ x free s m v listed le holds is.
-      let p = operands names call lists more one two word other claim claim' op free s m v listed le holds is in
-      let u : State = record s { locals = p.locals } in
-      let after = next one.variable free in
-      let first = place one.variable free in
-      let second = place two.variable after in
-      let y : Stmt-F Stmt = Stmt-F.Op x op first (operand.Name second) in
-      sets_last (does call (code one free ++ (code two after ++ roll-Stmt y ∷ []))) s p.locals x v free
-      (ap (λ body. does call body s) (sym (append_assoc (code one free) (code two after) (roll-Stmt y ∷ [])))
-      ∙ does-after call (code one free ++ code two after) (roll-Stmt y ∷ []) s u p.runs ∙ does-one call y u
-      ∙ ap (λ o. with_defined o u (λ a. with_defined (p.locals second) u (λ b. Goes (set_to x (value_of_op op a b) u)))) p.value
-      ∙ ap (λ o. with_defined o u (λ b. Goes (set_to x (value_of_op op p.one b) u))) p.other
-      ∙ ap (λ r. Goes (set_to x r u)) p.is_made)
-      p.others;
+  into = by (constant op two.literal) (left_constant op one.literal) refl refl;
 }
+  where
+    by : (c d : Option ℤ) → constant op two.literal ≡ c → left_constant op one.literal ≡ d
+        → (x free : ℕ) (s : State) (m : source.Locals) (v : ℕ) → (lists && more) ≡ true → length names ≤ free → Holds names s.locals m → both (value_of_op op) (word m s.memory) (other m s.memory) ≡ Some v
+        → Sets (does call (by_constants c d op one two x free)) s x v free
+    by (Some c) d e f x free s m v listed le holds is =
+        let w = both_there (value_of_op op) (word m s.memory) (other m s.memory) v is in
+        let z = stands op two.literal c e in
+        let same : w.two ≡ z.word = some_same w.two z.word (sym w.second ∙ claim'.literal z.word z.is m s.memory) in
+        constant-sets names call lists one word claim op c x free s m w.one v (and-first lists more listed) le holds w.first (ap (value_of_op op w.one) (z.same ∙ sym same) ∙ w.made)
+    by None (Some d) e f x free s m v listed le holds is =
+        let w = both_there (value_of_op op) (word m s.memory) (other m s.memory) v is in
+        let y = exchanged op one.literal d f in
+        let z = y.stands in
+        let same : w.one ≡ z.word = some_same w.one z.word (sym w.first ∙ claim.literal z.word z.is m s.memory) in
+        constant-sets names call more two other claim' op d x free s m w.two v (and-second lists more listed) le holds w.second
+        (y.exchanges w.two (wrapped d) ∙ ap (λ q. value_of_op op q w.two) (z.same ∙ sym same) ∙ w.made)
+    by None None e f x free s m v listed le holds is =
+        let p = operands names call lists more one two word other claim claim' op free s m v listed le holds is in
+        let u : State = record s { locals = p.locals } in
+        let after = next one.variable free in
+        let first = place one.variable free in
+        let second = place two.variable after in
+        let y : Stmt-F Stmt = Stmt-F.Op x op first (operand.Name second) in
+        sets_last (does call (code one free ++ (code two after ++ roll-Stmt y ∷ []))) s p.locals x v free
+        (ap (λ body. does call body s) (sym (append_assoc (code one free) (code two after) (roll-Stmt y ∷ [])))
+        ∙ does-after call (code one free ++ code two after) (roll-Stmt y ∷ []) s u p.runs ∙ does-one call y u
+        ∙ ap (λ o. with_defined o u (λ a. with_defined (p.locals second) u (λ b. Goes (set_to x (value_of_op op a b) u)))) p.value
+        ∙ ap (λ o. with_defined o u (λ b. Goes (set_to x (value_of_op op p.one b) u))) p.other
+        ∙ ap (λ r. Goes (set_to x r u)) p.is_made)
+        p.others
 
 -- ---- tests
 
@@ -282,9 +318,6 @@ op-claims names call lists more one two word other claim claim' op = record {
         let zero : w.two ≡ 0 = some_same w.two 0 (sym w.second ∙ claim'.words.literal 0 z.literal m s.memory) in
         let same : flag (w.one == 0) ≡ v = z.value w.one ∙ ap (value_of_op op w.one) (sym zero) ∙ w.made in
         subst (λ u. Tests (does call (negation t).before) s (negation t).cond u free (negation t).next) same (negation-tests call s t w.one free d)
-      where
-        some_same : (a b : ℕ) → Some a ≡ Some b → a ≡ b
-        some_same a b e = cc e
     by false asks None e free s m v listed le holds is =
         word-tests names call (lists && more) (expression_step names (Expr-F.Op op one two)) (λ m k. both (value_of_op op) (word m k) (other m k)) whole free s m v listed le holds is
     by false asks (Some r) e free s m v listed le holds is =

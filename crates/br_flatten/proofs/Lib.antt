@@ -1,6 +1,7 @@
 pub mod Numbers
 pub mod Turns
 pub mod Comparisons
+pub mod Literals
 pub mod Expressions
 pub mod Pieces
 pub mod Commands

@@ -1,8 +1,9 @@
 -- The flat statements of expressions, commands, functions and programs. A variable's number is the place of
 -- its name in a list of names; the numbers from the length of that list on are temporaries. Each word of an
 -- expression goes to a temporary or straight to the variable that is set, and a variable is used where it is.
--- A comparison that is tested is no word, but what the test asks.
-use Rattle.std.specs.Prelude.{ℕ, suc, max, Bool, true, false, ◌||◌, ◌&&◌, List, [], ◌∷◌, ◌++◌, map, length, Option, Some, None, pos, if◌then◌else◌, codes}
+-- A literal that an operation may have as a constant is no word, and a comparison that is tested is none, but
+-- what the test asks.
+use Rattle.std.specs.Prelude.{ℕ, suc, max, Bool, true, false, ◌||◌, ◌&&◌, List, [], ◌∷◌, ◌++◌, map, length, Option, Some, None, ℤ, pos, if◌then◌else◌, codes}
 use Rattle.std.specs.List.{flat_map, list_all}
 use Rattle.std.specs.Str.{bytes_eq}
 use Rattle.br_words.specs.declared.operation.BinOp.{BinOp}
@@ -23,6 +24,7 @@ use Rattle.br_flatimp.specs.declared.program.Stmt.TheViews.{roll-Stmt}
 use Rattle.br_flatimp.specs.declared.program.FlatFunc.{FlatFunc}
 use Rattle.br_flatimp.specs.Parts.{statement_names}
 use Rattle.br_flatten.specs.Tests.{Test, relation, asks_zero, negation}
+use Rattle.br_flatten.specs.Constants.{constant, left_constant}
 
 -- ---- names
 
@@ -138,10 +140,24 @@ abbrev pub tested_itself : Option ℕ → Option ℕ → (ℕ → ℕ → List S
 tested_itself variable literal into =
     record { variable = variable; literal = literal; into = into; test = word_test variable into }
 
-abbrev pub operation : BinOp → Flat → Flat → ℕ → ℕ → List Stmt
-operation op a b x free =
+-- an operation on an operand and a constant
+abbrev pub with_constant : BinOp → Flat → ℤ → ℕ → ℕ → List Stmt
+with_constant op a c x free = code a free ++ roll-Stmt (Stmt-F.Op x op (place a.variable free) (operand.Const c)) ∷ []
+
+-- an operation on two operands
+abbrev pub with_names : BinOp → Flat → Flat → ℕ → ℕ → List Stmt
+with_names op a b x free =
     code a free ++ (code b (next a.variable free)
     ++ roll-Stmt (Stmt-F.Op x op (place a.variable free) (operand.Name (place b.variable (next a.variable free)))) ∷ [])
+
+-- an operation, given the constants in the place of its operands: one on the right is taken first
+abbrev pub by_constants : Option ℤ → Option ℤ → BinOp → Flat → Flat → ℕ → ℕ → List Stmt
+by_constants (Some c) left op a b = with_constant op a c
+by_constants None (Some c) op a b = with_constant op b c
+by_constants None None op a b = with_names op a b
+
+abbrev pub operation : BinOp → Flat → Flat → ℕ → ℕ → List Stmt
+operation op a b = by_constants (constant op b.literal) (left_constant op a.literal) op a b
 
 -- an expression, given the statements of its parts
 abbrev pub expression_step : List Name → Expr-F Flat → Flat

@@ -1,4 +1,5 @@
 pub mod Tests
+pub mod Constants
 pub mod Flatten
 pub mod Places
 pub mod Numbering

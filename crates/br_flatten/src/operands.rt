@@ -6,6 +6,7 @@ ghost use Rattle.br_flatten.specs.Numbering.{listed};
 ghost use Rattle.br_measure.specs.Bulk.{expression_bulk, expressions_bulk};
 
 use crate::compare::{Tested, asks_zero, negation, relation};
+use crate::constants::{constant, left_constant};
 use crate::scope::Scope;
 use br_base::NoMemory;
 use br_flatimp::{Cond, Operand, Stmt};
@@ -49,9 +50,17 @@ pub(crate) fn into(
             out.push(Stmt::Table(x, *size, bytes, offset.at))?;
         }
         Expr::Op(op, a, b) => {
-            let first = operand(scope, a.get(), free, out)?;
-            let second = operand(scope, b.get(), first.next, out)?;
-            out.push(Stmt::Op(x, *op, first.at, Operand::Name(second.at)))?;
+            if let Some(c) = constant(*op, scope.literal(b.get())) {
+                let first = operand(scope, a.get(), free, out)?;
+                out.push(Stmt::Op(x, *op, first.at, Operand::Const(c)))?;
+            } else if let Some(c) = left_constant(*op, scope.literal(a.get())) {
+                let second = operand(scope, b.get(), free, out)?;
+                out.push(Stmt::Op(x, *op, second.at, Operand::Const(c)))?;
+            } else {
+                let first = operand(scope, a.get(), free, out)?;
+                let second = operand(scope, b.get(), first.next, out)?;
+                out.push(Stmt::Op(x, *op, first.at, Operand::Name(second.at)))?;
+            }
         }
         Expr::Ite(test, a, b) => {
             let test = tested(scope, test.get(), free, out)?;

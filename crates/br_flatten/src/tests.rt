@@ -60,8 +60,9 @@ fn write_statement(text: &mut String, s: &Stmt) -> Result<(), Fail> {
         Stmt::Lit(x, n) => write!(text, " lit {x} {n};")?,
         Stmt::Copy(x, y) => write!(text, " copy {x} {y};")?,
         Stmt::Op(x, op, y, z) => {
-            let second = operand(*z);
-            write!(text, " {op:?} {x} {y} {second};")?;
+            write!(text, " {op:?} {x} {y} ")?;
+            write_operand(text, *z)?;
+            write!(text, ";")?;
         }
         Stmt::Load(x, size, y, offset) => write!(text, " load {size:?} {x} {y} {offset};")?,
         Stmt::Store(size, y, z, offset) => write!(text, " store {size:?} {y} {z} {offset};")?,
@@ -105,12 +106,12 @@ fn write_statement(text: &mut String, s: &Stmt) -> Result<(), Fail> {
     Ok(())
 }
 
-// The name that an operand is. A constant is no name.
-fn operand(z: Operand) -> u32 {
+fn write_operand(text: &mut String, z: Operand) -> Result<(), Fail> {
     match z {
-        Operand::Name(y) => y,
-        Operand::Const(_) => 4294967295,
+        Operand::Name(y) => write!(text, "{y}")?,
+        Operand::Const(c) => write!(text, "#{c}")?,
     }
+    Ok(())
 }
 
 fn write_test(text: &mut String, test: Cond) -> Result<(), Fail> {
@@ -127,7 +128,7 @@ fn statements_of_texts(rt: HostRuntime) -> Result<(), Fail> {
     let rows = [
         (
             "(fn main (a) (r) (set r (add (mul a a) 1)))",
-            "(0) -> (1) of 4: Mul 2 0 0; lit 3 1; Add 1 2 3;\n",
+            "(0) -> (1) of 3: Mul 2 0 0; Add 1 2 #1;\n",
         ),
         // Variables stand for themselves, and come in the order of their first place.
         (
@@ -141,7 +142,7 @@ fn statements_of_texts(rt: HostRuntime) -> Result<(), Fail> {
         ),
         (
             "(fn f (p) () (store4 p (load1 (add p 1))) (store2 (add p p) p))",
-            "(0) -> () of 4: lit 3 1; Add 2 0 3; load One 1 2 0; store Four 0 1 0; \
+            "(0) -> () of 3: Add 2 0 #1; load One 1 2 0; store Four 0 1 0; \
             Add 1 0 0; store Two 1 0 0;\n",
         ),
         (
@@ -156,7 +157,20 @@ fn statements_of_texts(rt: HostRuntime) -> Result<(), Fail> {
         // A loop computes its test again on each turn.
         (
             "(fn main () (r) (set r 0) (while (ltu r 9) (set r (add r 4))))",
-            "() -> (0) of 2: lit 0 0; loop [ lit 1 9; ] Ltu 0 1 [ lit 1 4; Add 0 0 1; ]\n",
+            "() -> (0) of 2: lit 0 0; loop [ lit 1 9; ] Ltu 0 1 [ Add 0 0 #4; ]\n",
+        ),
+        // A literal that fits is a constant, on the left only where operands may be exchanged.
+        (
+            "(fn f (a) (r) (set r (sub a 2048)) (set r (add a 2048)) (set r (sub 1 a)) \
+            (set r (and 7 a)) (set r (slu a 32)) (set r (slu a 31)))",
+            "(0) -> (1) of 3: Sub 1 0 #2048; lit 2 2048; Add 1 0 2; lit 2 1; Sub 1 2 0; \
+            And 1 0 #7; lit 2 32; Slu 1 0 2; Slu 1 0 #31;\n",
+        ),
+        (
+            "(fn f (a) (r) (set r (add a 0xfffff800)) (set r (sub a 0xfffff800)) (set r (eq 3 a)) \
+            (set r (mul a 4)) (set r (ltu 3 a)))",
+            "(0) -> (1) of 3: Add 1 0 #-2048; lit 2 4294965248; Sub 1 0 2; Eq 1 0 #3; \
+            lit 2 4; Mul 1 0 2; lit 2 3; Ltu 1 2 0;\n",
         ),
         // A comparison is tested itself, and the opposite one where it is compared with 0.
         (
@@ -174,7 +188,7 @@ fn statements_of_texts(rt: HostRuntime) -> Result<(), Fail> {
         ),
         (
             "(fn f () (r) (stackalloc p 8 (interact (r) MMIOREAD p) (interact () MMIOWRITE p (add r 1))))",
-            "() -> (0) of 4: stackalloc 1 8 [ read 0 1; lit 3 1; Add 2 0 3; write 1 2; ]\n",
+            "() -> (0) of 3: stackalloc 1 8 [ read 0 1; Add 2 0 #1; write 1 2; ]\n",
         ),
         // Functions are numbered in the order of the text, whatever stands first in a call.
         (
@@ -183,13 +197,12 @@ fn statements_of_texts(rt: HostRuntime) -> Result<(), Fail> {
         ),
         (
             "(fn main () () (interact () MMIOWRITE 0x1001200C (add 5 7)))",
-            "() -> () of 4: lit 0 268509196; lit 2 5; lit 3 7; Add 1 2 3; write 0 1;\n",
+            "() -> () of 3: lit 0 268509196; lit 2 5; Add 1 2 #7; write 0 1;\n",
         ),
         (
             "(fn sum (n) (total last) (set total 0) (set last (sub n 1)) \
             (while n (set total (add total n)) (set n (sub n 1))))",
-            "(0) -> (1 2) of 4: lit 1 0; lit 3 1; Sub 2 0 3; \
-            loop [ ] 0 [ Add 1 1 0; lit 3 1; Sub 0 0 3; ]\n",
+            "(0) -> (1 2) of 3: lit 1 0; Sub 2 0 #1; loop [ ] 0 [ Add 1 1 0; Sub 0 0 #1; ]\n",
         ),
     ];
     for (text, expected) in &rows {
@@ -229,9 +242,9 @@ fn statements_of_examples(rt: HostRuntime) -> Result<(), Fail> {
                 (call () wait turns)))",
             "() -> () of 2: lit 0 268509188; lit 1 262144; write 0 1; lit 0 268509192; \
             lit 1 2097152; write 0 1;\n\
-            () -> (0) of 4: lit 2 268509184; read 1 2; lit 3 18; Sru 2 1 3; lit 3 1; And 0 2 3;\n\
-            (0) -> () of 4: lit 1 268509196; lit 3 21; Slu 2 0 3; write 1 2;\n\
-            (0) -> () of 2: loop [ ] 0 [ lit 1 1; Sub 0 0 1; ]\n\
+            () -> (0) of 3: lit 2 268509184; read 1 2; Sru 2 1 #18; And 0 2 #1;\n\
+            (0) -> () of 3: lit 1 268509196; Slu 2 0 #21; write 1 2;\n\
+            (0) -> () of 1: loop [ ] 0 [ Sub 0 0 #1; ]\n\
             (0) -> () of 4: call () 0 (); lit 1 0; loop [ lit 3 1; ] 3 [ lit 3 1; Sub 1 3 1; \
             call (2) 1 (); Or 3 1 2; call () 2 (3); call () 3 (0); ]\n",
         ),
@@ -255,7 +268,7 @@ fn statements_of_examples(rt: HostRuntime) -> Result<(), Fail> {
                     (set n (sub n 1)))))
               (interact () MMIOWRITE 0x1001200C total))",
             "(0 1) -> (2) of 5: lit 2 0; loop [ ] 1 [ lit 4 268509184; read 3 4; if 3 [ lit 1 0; ] \
-            [ load Four 4 0 0; Add 2 2 4; lit 4 4; Add 0 0 4; lit 4 1; Sub 1 1 4; ] ] \
+            [ load Four 4 0 0; Add 2 2 4; Add 0 0 #4; Sub 1 1 #1; ] ] \
             lit 4 268509196; write 4 2;\n",
         ),
         (
@@ -283,14 +296,14 @@ fn statements_of_examples(rt: HostRuntime) -> Result<(), Fail> {
               (set word (add word (table1 (1 2 3 255) 3)))
               (set word (add word (table2 (1 0 2 0) 2)))
               (set word (add word (table4 (4 3 2 1) 0))))",
-            "(0 1) -> (2) of 5: Add 2 0 1; Mul 3 0 1; Sub 2 2 3; Mulhuu 3 0 1; Xor 2 2 3; \
+            "(0 1) -> (2) of 4: Add 2 0 1; Mul 3 0 1; Sub 2 2 3; Mulhuu 3 0 1; Xor 2 2 3; \
             Divu 3 0 1; Or 2 2 3; Remu 3 0 1; And 2 2 3; Slu 3 0 1; Xor 2 2 3; Sru 3 0 1; \
             Xor 2 2 3; Srs 3 0 1; Xor 2 2 3; Lts 3 0 1; Add 2 2 3; Ltu 3 0 1; Add 2 2 3; \
-            lit 4 42; Eq 3 0 4; Add 2 2 3; if Ltu 0 1 [ Sub 2 1 0; ] [ copy 2 2; ]\n\
-            () -> (0) of 5: stackalloc 1 8 [ lit 2 1; store One 1 2 0; lit 3 2; Add 2 1 3; lit 3 2; \
-            store Two 2 3 0; lit 3 4; Add 2 1 3; lit 3 4; store Four 2 3 0; load One 0 1 0; \
-            lit 4 2; Add 3 1 4; load Two 2 3 0; Add 0 0 2; \
-            lit 4 4; Add 3 1 4; load Four 2 3 0; Add 0 0 2; ] \
+            Eq 3 0 #42; Add 2 2 3; if Ltu 0 1 [ Sub 2 1 0; ] [ copy 2 2; ]\n\
+            () -> (0) of 4: stackalloc 1 8 [ lit 2 1; store One 1 2 0; Add 2 1 #2; lit 3 2; \
+            store Two 2 3 0; Add 2 1 #4; lit 3 4; store Four 2 3 0; load One 0 1 0; \
+            Add 3 1 #2; load Two 2 3 0; Add 0 0 2; \
+            Add 3 1 #4; load Four 2 3 0; Add 0 0 2; ] \
             lit 3 3; table One 2 4 3; Add 0 0 2; lit 3 2; table Two 2 4 3; Add 0 0 2; \
             lit 3 0; table Four 2 4 3; Add 0 0 2;\n",
         ),
@@ -311,8 +324,7 @@ fn statements_of_examples(rt: HostRuntime) -> Result<(), Fail> {
                     (call (total last) sum button)
                     (interact () MMIOWRITE 0x1001200c total)
                     (unset last)))))",
-            "(0) -> (1 2) of 4: lit 1 0; lit 3 1; Sub 2 0 3; \
-            loop [ ] 0 [ Add 1 1 0; lit 3 1; Sub 0 0 3; ]\n\
+            "(0) -> (1 2) of 3: lit 1 0; Sub 2 0 #1; loop [ ] 0 [ Add 1 1 0; Sub 0 0 #1; ]\n\
             () -> () of 4: lit 3 268509184; read 0 3; lit 3 0; if Eq 0 3 [ ] \
             [ call (1 2) 0 (0); lit 3 268509196; write 3 1; ]\n",
         ),

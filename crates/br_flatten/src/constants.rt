@@ -1,0 +1,53 @@
+// Which literals are constants of operations.
+
+ghost use Rattle.std.specs.Prelude.{◌≡◌};
+ghost use Rattle.br_flatimp.specs.WellFormed.{fits_operation};
+ghost use Rattle.br_flatten.specs.Constants.{commutes, constant, left_constant};
+
+use br_words::BinOp;
+
+/// The constant that an operation may have in the place of a literal on its right.
+pub(crate) fn constant(op: BinOp, literal: Option<u32>) -> Option<i32>
+    ensures { result ≡ constant op literal }
+{
+    match literal {
+        Some(n) => {
+            let c = n.cast_signed();
+            if fits(op, c) { Some(c) } else { None }
+        }
+        None => None,
+    }
+}
+
+/// The constant that an operation may have in the place of a literal on its left.
+pub(crate) fn left_constant(op: BinOp, literal: Option<u32>) -> Option<i32>
+    ensures { result ≡ left_constant op literal }
+{
+    if commutes(op) {
+        constant(op, literal)
+    } else {
+        None
+    }
+}
+
+fn fits(op: BinOp, c: i32) -> bool
+    ensures { result ≡ fits_operation op c }
+{
+    match op {
+        BinOp::Add | BinOp::And | BinOp::Or | BinOp::Xor | BinOp::Lts | BinOp::Ltu | BinOp::Eq =>
+            -2048 <= c && c <= 2047,
+        BinOp::Sub => -2047 <= c && c <= 2048,
+        BinOp::Sru | BinOp::Slu | BinOp::Srs => 0 <= c && c <= 31,
+        BinOp::Mul | BinOp::Mulhuu | BinOp::Divu | BinOp::Remu => false,
+    }
+}
+
+fn commutes(op: BinOp) -> bool
+    ensures { result ≡ commutes op }
+{
+    match op {
+        BinOp::Add | BinOp::And | BinOp::Or | BinOp::Xor | BinOp::Eq => true,
+        BinOp::Sub | BinOp::Mul | BinOp::Mulhuu | BinOp::Divu | BinOp::Remu => false,
+        BinOp::Sru | BinOp::Slu | BinOp::Srs | BinOp::Lts | BinOp::Ltu => false,
+    }
+}
