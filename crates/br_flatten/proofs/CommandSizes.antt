@@ -1,5 +1,5 @@
 -- The sizes of the statements of commands, in which no name is at fault and each limit is kept.
-use Rattle.std.proofs.Common.{◌≡◌, ℕ, suc, ◌+◌, ◌-◌, ◌%◌, ◌≤◌, ◌==◌, ◌&&◌, ◌||◌, not, max, Bool, true, false, if◌then◌else◌, List, [], ◌∷◌, ◌++◌, map, sum, length, Option, Some, None, refl, sym, ap, subst, ◌∙◌, arith, pos, codes, slice_get, nat_le}
+use Rattle.std.proofs.Common.{◌≡◌, ℕ, suc, ◌+◌, ◌-◌, ◌%◌, ◌≤◌, ◌==◌, ◌&&◌, ◌||◌, not, max, Bool, true, false, if◌then◌else◌, List, [], ◌∷◌, ◌++◌, map, sum, length, Option, Some, None, refl, sym, ap, subst, ◌∙◌, arith, codes, slice_get, nat_le}
 use Rattle.std.specs.List.{list_all, list_any, sum_by}
 use Rattle.std.specs.Str.{bytes_eq}
 use Rattle.std.proofs.lemmas.List.{append-nil, length-append, length-map, map-append}
@@ -30,7 +30,7 @@ use Rattle.br_flatimp.specs.declared.program.Stmt.TheViews.{roll-Stmt}
 use Rattle.br_flatimp.specs.declared.program.FlatFunc.{FlatFunc}
 use Rattle.br_flatimp.specs.WellFormed.{counts_fit, values_fit}
 use Rattle.br_flatimp.specs.WellFormed as fit
-use Rattle.br_flatten.specs.Flatten.{above, number, is_listed, lists_names, lists_expression, lists_expressions, lists_command_step, lists_command, place, next, code, codes_of, places_of, branches, expression, joined, read_statements, write_statements, device_statements, callee_number, command_step, command}
+use Rattle.br_flatten.specs.Flatten.{above, number, is_listed, lists_names, lists_expression, lists_expressions, lists_command_step, lists_command, place, code, codes_of, places_of, branches, expression, joined, read_statements, write_statements, device_statements, callee_number, command_step, command}
 use Rattle.br_flatten.specs.Places.{all_of, expression_variables, expressions_variables, command_variables_step, command_variables}
 use Rattle.br_flatten.proofs.LeastAbove.{above-append}
 use Rattle.br_flatten.proofs.Numbers.{and-first, and-second, number-below, number-same}
@@ -240,23 +240,23 @@ module _ (fs : List Func) (qs : List FlatFunc) (names : List Name) where
         split = let split = s.split in let split' = t.split in let len = length-append (expression_variables a) (expression_variables e) in omega (arith, split, split', len);
         fine = λ listed.
             let free = length names in
-            let c = operand-coded a free (and-first (lists_expression names a) (lists_expression names e) listed) (omega arith) in
+            let c = (expression_sized qs names a).address free (and-first (lists_expression names a) (lists_expression names e) listed) (omega arith) in
             let grows = c.grows in
             let after = c.after in
             let below = c.below in
-            let onward = next (expression names a).variable free in
+            let at = (expression names a).address free in
+            let onward = at.next in
             let d = operand-coded e onward (and-second (lists_expression names a) (lists_expression names e) listed) grows in
             let below' = d.below in
             let top = free + (s.weight + t.weight) in
             let one = expression_bulk a in
             let two = expression_bulk e in
-            let A = code (expression names a) free in
             let B = code (expression names e) onward in
-            let y : Stmt-F Stmt = Stmt-F.Store size (place (expression names a).variable free) (place (expression names e).variable onward) (pos 0) in
-            let last = fine-one qs top 1 0 [] y (omega (arith, below, below', after)) (omega arith) (omega arith) refl refl in
+            let y : Stmt-F Stmt = Stmt-F.Store size at.at (place (expression names e).variable onward) at.offset in
+            let last = fine-one qs top 1 0 [] y (omega (arith, below, below', after)) (omega arith) (omega arith) refl (ap (λ b. b && true) c.fits) in
             let rest = fine-append qs top two 1 0 [] [] B (roll-Stmt y ∷ []) (fine-within qs (onward + t.weight) two 0 top two 0 [] B (omega (arith, after)) (omega arith) (omega arith) d.body) last in
-            fine-within qs top (one + (two + 1)) 0 top (1 + one + two) 0 [] (A ++ (B ++ roll-Stmt y ∷ [])) (omega arith) (omega arith) (omega arith)
-            (fine-append qs top one (two + 1) 0 [] [] A (B ++ roll-Stmt y ∷ []) (fine-within qs (free + s.weight) one 0 top one 0 [] A (omega arith) (omega arith) (omega arith) c.body) rest);
+            fine-within qs top (one + (two + 1)) 0 top (1 + one + two) 0 [] (at.before ++ (B ++ roll-Stmt y ∷ [])) (omega arith) (omega arith) (omega arith)
+            (fine-append qs top one (two + 1) 0 [] [] at.before (B ++ roll-Stmt y ∷ []) (fine-within qs (free + s.weight) one 0 top one 0 [] at.before (omega arith) (omega arith) (omega arith) c.body) rest);
       }
 
   call-sized : CallsFit fs qs → (at : ℕ) (xs : List Name) (callee : Name) (es : List Expr)

@@ -1,5 +1,5 @@
 -- The statements of a command match it: from related states they come to related states with the same end.
-use Rattle.std.proofs.Common.{◌≡◌, ℕ, ◌<◌, ◌≤◌, ◌==◌, ◌&&◌, Bool, true, false, if◌then◌else◌, List, [], ◌∷◌, ◌++◌, map, length, Option, Some, None, inr, refl, sym, ap, subst, ◌∙◌, arith, pos}
+use Rattle.std.proofs.Common.{◌≡◌, ℕ, ◌<◌, ◌≤◌, ◌==◌, ◌&&◌, Bool, true, false, if◌then◌else◌, List, [], ◌∷◌, ◌++◌, map, length, Option, Some, None, inr, refl, sym, ap, subst, ◌∙◌, arith}
 use Rattle.std.specs.List.{list_all}
 use Rattle.std.proofs.lemmas.Bool.Decides.{Decides-eqb}
 use Rattle.br_words.specs.declared.size.Size.{Size}
@@ -29,8 +29,8 @@ use Rattle.br_flatten.specs.Flatten.{number, is_listed, lists_names, lists_expre
 use Rattle.br_flatten.proofs.Numbers.{and-first, and-second}
 use Rattle.br_flatten.proofs.Turns.{does, does-append, does-after, does-one}
 use Rattle.br_flatten.proofs.Comparisons.{Tests}
-use Rattle.br_flatten.proofs.Expressions.{holds-kept, Placed, placed, expression_claim}
-use Rattle.br_flatten.proofs.Pieces.{At, Out, AtMatches, at-locals, matches-source, matches-from, holds-changed, holds-set, holds-unset, holds-set_all, put-moved, all_placed, length-values, device-matches, Tested, while-matches}
+use Rattle.br_flatten.proofs.Expressions.{holds-kept, Placed, placed, Addressed, expression_claim}
+use Rattle.br_flatten.proofs.Pieces.{At, Out, AtMatches, at-locals, matches-source, matches-from, holds-changed, holds-set, holds-unset, holds-set_all, put-same, all_placed, length-values, device-matches, Tested, while-matches}
 
 -- ---- faults
 
@@ -77,6 +77,12 @@ word_tested : (names : List Name) (call : Callee) (e : Expr) (free : ℕ) (s : S
 word_tested names call e free s t v listed le h is =
     (expression_claim names call e).tests free s t.locals v listed le h.locals (subst (λ m. value t.locals m e ≡ Some v) (sym h.outside.memory) is)
 
+-- the bytes at it
+word_addressed : (names : List Name) (call : Callee) (e : Expr) (free : ℕ) (s : State) (t : src.State) (v : ℕ) → lists_expression names e ≡ true → length names ≤ free → At names s t → value t.locals t.memory e ≡ Some v
+    → Addressed (does call ((expression names e).address free).before) s ((expression names e).address free).at ((expression names e).address free).offset v free ((expression names e).address free).next
+word_addressed names call e free s t v listed le h is =
+    (expression_claim names call e).addresses free s t.locals v listed le h.locals (subst (λ m. value t.locals m e ≡ Some v) (sym h.outside.memory) is)
+
 after_placed : (names : List Name) (s : State) (t : src.State) (l : Locals) (free : ℕ) → length names ≤ free → ((y : ℕ) → y < free → l y ≡ s.locals y) → At names s t → At names (record s { locals = l }) t
 after_placed names s t l free le same h = at-locals names s t l t.locals (holds-kept names s.locals l t.locals free le same h.locals) h.outside
 
@@ -102,26 +108,25 @@ store-matches names call fs size a e s t listed listed' h =
     matches-source names q (value t.locals t.memory a) t (λ a. with_defined (value t.locals t.memory e) t (λ v. with_defined (put_number t.memory a n v) t (λ m. Goes (record t { memory = m })))) (λ b is.
     matches-source names q (value t.locals t.memory e) t (λ v. with_defined (put_number t.memory b n v) t (λ m. Goes (record t { memory = m }))) (λ v is'.
     let free = length names in
-    let one = expression names a in
+    let one = (expression names a).address free in
     let two = expression names e in
-    let p = word_placed names call a free s t b listed (le_itself free) h is in
+    let p = word_addressed names call a free s t b listed (le_itself free) h is in
     let u : State = record s { locals = p.locals } in
     let h1 = after_placed names s t p.locals free (le_itself free) p.others h in
-    let after = next one.variable free in
+    let after = one.next in
     let grows = p.grows in
     let r = word_placed names call e after u t v listed' grows h1 is' in
     let w : State = record s { locals = r.locals } in
     let h2 = after_placed names u t r.locals after grows r.others h1 in
-    let first = place one.variable free in
     let second = place two.variable after in
-    let y : Stmt-F Stmt = Stmt-F.Store size first second (pos 0) in
-    let value : r.locals first ≡ Some b = r.others first p.below ∙ p.value in
+    let y : Stmt-F Stmt = Stmt-F.Store size one.at second one.offset in
+    let value : r.locals one.at ≡ Some p.word = r.others one.at p.below ∙ p.value in
     matches-from names q (with_defined (put_number t.memory b n v) w (λ m. Goes (record w { memory = m }))) (with_defined (put_number t.memory b n v) t (λ m. Goes (record t { memory = m })))
-    (does-after call (code one free) (code two after ++ roll-Stmt y ∷ []) s u p.runs
+    (does-after call one.before (code two after ++ roll-Stmt y ∷ []) s u p.runs
     ∙ does-after call (code two after) (roll-Stmt y ∷ []) u w r.runs ∙ does-one call y w
-    ∙ ap (λ o. with_defined o w (λ a. with_defined (r.locals second) w (λ v. with_defined (put_number w.memory (moved a (pos 0)) n v) w (λ m. Goes (record w { memory = m }))))) value
-    ∙ ap (λ o. with_defined o w (λ v. with_defined (put_number w.memory (moved b (pos 0)) n v) w (λ m. Goes (record w { memory = m })))) r.value
-    ∙ ap (λ o. with_defined o w (λ m. Goes (record w { memory = m }))) (put-moved s.memory b n v ∙ ap (λ m. put_number m b n v) h.outside.memory))
+    ∙ ap (λ o. with_defined o w (λ a. with_defined (r.locals second) w (λ v. with_defined (put_number w.memory (moved a one.offset) n v) w (λ m. Goes (record w { memory = m }))))) value
+    ∙ ap (λ o. with_defined o w (λ v. with_defined (put_number w.memory (moved p.word one.offset) n v) w (λ m. Goes (record w { memory = m })))) r.value
+    ∙ ap (λ o. with_defined o w (λ m. Goes (record w { memory = m }))) (put-same s.memory (moved p.word one.offset) b n v p.same ∙ ap (λ m. put_number m b n v) h.outside.memory))
     (matches-with_defined (At names) Out (put_number t.memory b n v) (put_number t.memory b n v) w t (λ m. Goes (record w { memory = m })) (λ m. Goes (record t { memory = m })) (inr refl) (λ m has. record {
       locals = h2.locals;
       outside = record { memory = refl; trace = h.outside.trace; answers = h.outside.answers; choices = h.outside.choices; fuel = h.outside.fuel };

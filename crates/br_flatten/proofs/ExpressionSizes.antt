@@ -21,13 +21,13 @@ use Rattle.br_flatimp.specs.declared.program.Stmt.TheViews.{roll-Stmt}
 use Rattle.br_flatimp.specs.declared.program.FlatFunc.{FlatFunc}
 use Rattle.br_flatimp.specs.Parts.{test_names}
 use Rattle.br_flatimp.specs.Sizes.{words_for}
-use Rattle.br_flatimp.specs.WellFormed.{fits_operation}
-use Rattle.br_flatten.specs.Constants.{constant, left_constant}
+use Rattle.br_flatimp.specs.WellFormed.{fits_operation, is_immediate}
+use Rattle.br_flatten.specs.Constants.{constant, left_constant, byte_offset}
 use Rattle.br_flatten.specs.Tests.{Test, relation, asks_zero, zero_before, turned, next_turned, negation}
-use Rattle.br_flatten.specs.Flatten.{above, number, is_listed, lists_step, lists_expression, lists_expressions, Flat, place, next, code, codes_of, places_of, compared_test, tested_itself, with_constant, by_constants, operation, expression_step, expression}
+use Rattle.br_flatten.specs.Flatten.{above, number, is_listed, lists_step, lists_expression, lists_expressions, Address, Flat, place, next, code, codes_of, places_of, compared_test, itself, with_constant, by_constants, by_offsets, operation, expression_step, expression}
 use Rattle.br_flatten.specs.Places.{variables_step, expression_variables, expressions_variables}
 use Rattle.br_flatten.proofs.Numbers.{and-first, and-second, number-below}
-use Rattle.br_flatten.proofs.Literals.{stands, exchanged}
+use Rattle.br_flatten.proofs.Literals.{stands, exchanged, offset-stands}
 use Rattle.br_flatten.proofs.Fine.{Fine, fine-none, fine-append, fine-within, fine-one, fine-if}
 
 -- An expression's statements, where its variables and a weight make its bulk. The weight bounds its
@@ -87,23 +87,6 @@ variable-sized fs names z = record {
   into = λ x free listed le.
       let below = number-below names z listed in
       fine-one fs (max (suc x) (free + (0 - 1))) 1 0 [] (Stmt-F.Copy x (number names z)) (omega (arith, below, le)) (omega arith) (omega arith) refl refl;
-}
-
-load-sized : (fs : List FlatFunc) (names : List Name) (lists : Bool) (a : ℕ) (vs : List Name) (flat : Flat) → Sized fs (length names) lists a vs flat → (size : Size)
-    → Sized fs (length names) lists (1 + a) vs (expression_step names (Expr-F.Load size flat))
-load-sized fs names lists a vs flat e size = record {
-  weight = 1 + e.weight;
-  split = let split = e.split in omega (arith, split);
-  variable = λ y e listed. none_is_not y e;
-  some = λ e. omega arith;
-  into = λ x free listed le.
-      let c = coded fs (length names) lists a vs flat e listed free le in
-      let below = c.below in
-      let top = max (suc x) (free + (1 + e.weight - 1)) in
-      let last = fine-one fs top 1 0 [] (Stmt-F.Load x size (place flat.variable free) (pos 0)) (omega (arith, below)) (omega arith) (omega arith) refl refl in
-      fine-within fs top (a + 1) 0 top (1 + a) 0 [] (code flat free ++ roll-Stmt (Stmt-F.Load x size (place flat.variable free) (pos 0)) ∷ []) (omega arith) (omega arith) (omega arith)
-      (fine-append fs top a 1 0 [] [] (code flat free) (roll-Stmt (Stmt-F.Load x size (place flat.variable free) (pos 0)) ∷ [])
-      (fine-within fs (free + e.weight) a 0 top a 0 [] (code flat free) (omega arith) (omega arith) (omega arith) c.body) last);
 }
 
 table-sized : (fs : List FlatFunc) (names : List Name) (lists : Bool) (a : ℕ) (vs : List Name) (flat : Flat) → Sized fs (length names) lists a vs flat → (size : Size) (bytes : List ℕ)
@@ -169,7 +152,7 @@ op-sized fs names lists more a b vs ws one two e f op = record {
         (fine-append fs top a (b + 1) 0 [] [] (code one free) (code two onward ++ roll-Stmt y ∷ [])
         (fine-within fs (free + e.weight) a 0 top a 0 [] (code one free) (omega arith) (omega arith) (omega arith) c.body) rest)
 
--- ---- tests
+-- ---- tests and addresses
 
 -- a test's statements, the names that it reads, and what is free after it
 pub record Tested (fs : List FlatFunc) (size weight free : ℕ) (t : Test) : Type 0 where
@@ -177,20 +160,65 @@ pub record Tested (fs : List FlatFunc) (size weight free : ℕ) (t : Test) : Typ
   pub below : above (test_names t.cond) ≤ free + weight
   pub after : t.next ≤ free + weight
 
--- the statements of an expression, and its test
+-- an address's statements, its place, what is free after it, and that its byte offset is in range
+pub record AddressSized (fs : List FlatFunc) (size weight free : ℕ) (a : Address) : Type 0 where
+  pub body : Fine fs (free + weight) size 0 [] a.before
+  pub below : a.at + 1 ≤ free + weight
+  pub after : a.next ≤ free + weight
+  pub grows : free ≤ a.next
+  pub fits : is_immediate a.offset ≡ true
+
+-- the statements of an expression, its test, and the bytes at it
 pub record Measured (fs : List FlatFunc) (n : ℕ) (lists : Bool) (size : ℕ) (vs : List Name) (flat : Flat) : Type 0 where
   pub words : Sized fs n lists size vs flat
   pub test : (free : ℕ) → lists ≡ true → n ≤ free → Tested fs size words.weight free (flat.test free)
+  pub address : (free : ℕ) → lists ≡ true → n ≤ free → AddressSized fs size words.weight free (flat.address free)
 
 word-tested : (fs : List FlatFunc) (size weight free : ℕ) (flat : Flat) → Coded fs size weight free flat
     → Tested fs size weight free (record { before = code flat free; cond = NonZero (place flat.variable free); next = next flat.variable free })
 word-tested fs size weight free flat c = let below = c.below in record { body = c.body; below = omega (arith, below); after = c.after }
 
-itself : (fs : List FlatFunc) (n : ℕ) (lists : Bool) (size : ℕ) (vs : List Name) (variable literal : Option ℕ) (into : ℕ → ℕ → List Stmt)
-    → Sized fs n lists size vs (tested_itself variable literal into) → Measured fs n lists size vs (tested_itself variable literal into)
-itself fs n lists size vs variable literal into e =
-    let flat = tested_itself variable literal into in
-    record { words = e; test = λ free listed le. word-tested fs size e.weight free flat (coded fs n lists size vs flat e listed free le) }
+moved-sized : (fs : List FlatFunc) (size weight size' weight' free : ℕ) (flat : Flat) (c : ℤ) → size ≤ size' → weight ≤ weight' → is_immediate c ≡ true → Coded fs size weight free flat
+    → AddressSized fs size' weight' free (record { before = code flat free; at = place flat.variable free; next = next flat.variable free; offset = c })
+moved-sized fs size weight size' weight' free flat c more wider fits k =
+    let below = k.below in
+    let after = k.after in
+    record {
+      body = fine-within fs (free + weight) size 0 (free + weight') size' 0 [] (code flat free) (omega (arith, wider)) more (omega arith) k.body;
+      below = omega (arith, below, wider);
+      after = omega (arith, after, wider);
+      grows = k.grows;
+      fits = fits;
+    }
+
+itself-measured : (fs : List FlatFunc) (n : ℕ) (lists : Bool) (size : ℕ) (vs : List Name) (variable literal : Option ℕ) (into : ℕ → ℕ → List Stmt)
+    → Sized fs n lists size vs (itself variable literal into) → Measured fs n lists size vs (itself variable literal into)
+itself-measured fs n lists size vs variable literal into e =
+    let flat = itself variable literal into in
+    record {
+      words = e;
+      test = λ free listed le. word-tested fs size e.weight free flat (coded fs n lists size vs flat e listed free le);
+      address = λ free listed le. moved-sized fs size e.weight size e.weight free flat (pos 0) (omega arith) (omega arith) refl (coded fs n lists size vs flat e listed free le);
+    }
+
+load-sized : (fs : List FlatFunc) (names : List Name) (lists : Bool) (a : ℕ) (vs : List Name) (flat : Flat) → Measured fs (length names) lists a vs flat → (size : Size)
+    → Sized fs (length names) lists (1 + a) vs (expression_step names (Expr-F.Load size flat))
+load-sized fs names lists a vs flat e size = record {
+  weight = 1 + e.words.weight;
+  split = let split = e.words.split in omega (arith, split);
+  variable = λ y e listed. none_is_not y e;
+  some = λ e. omega arith;
+  into = λ x free listed le.
+      let at = flat.address free in
+      let c = e.address free listed le in
+      let below = c.below in
+      let top = max (suc x) (free + (1 + e.words.weight - 1)) in
+      let y : Stmt-F Stmt = Stmt-F.Load x size at.at at.offset in
+      let last = fine-one fs top 1 0 [] y (omega (arith, below)) (omega arith) (omega arith) refl (ap (λ b. b && true) c.fits) in
+      fine-within fs top (a + 1) 0 top (1 + a) 0 [] (at.before ++ roll-Stmt y ∷ []) (omega arith) (omega arith) (omega arith)
+      (fine-append fs top a 1 0 [] [] at.before (roll-Stmt y ∷ [])
+      (fine-within fs (free + e.words.weight) a 0 top a 0 [] at.before (omega arith) (omega arith) (omega arith) c.body) last);
+}
 
 negation-tested : (fs : List FlatFunc) (size weight size' weight' free : ℕ) (t : Test) → size + 1 ≤ size' → weight + 1 ≤ weight' → Tested fs size weight free t → Tested fs size' weight' free (negation t)
 negation-tested fs size weight size' weight' free t more wider e = by t.cond t.next e.below e.after
@@ -220,11 +248,25 @@ op-measured : (fs : List FlatFunc) (names : List Name) (lists more : Bool) (a b 
 unfolding op-sized
 op-measured fs names lists more a b vs ws one two e f op = record {
   words = whole;
-  test = λ free listed le. by (asks_zero op two.literal) (relation op) free listed le;
+  test = by (asks_zero op two.literal) (relation op);
+  address = at (byte_offset op two.literal) (byte_offset op one.literal) refl refl;
 }
   where
     whole : Sized fs (length names) (lists && more) (1 + a + b) (vs ++ ws) (expression_step names (Expr-F.Op op one two))
     whole = op-sized fs names lists more a b vs ws one two e.words f.words op
+
+    at : (c d : Option ℤ) → byte_offset op two.literal ≡ c → byte_offset op one.literal ≡ d → (free : ℕ) → (lists && more) ≡ true → length names ≤ free
+        → AddressSized fs (1 + a + b) (1 + e.words.weight + f.words.weight) free (by_offsets c d (operation op one two) one two free)
+    at (Some c) d is is' free listed le =
+        moved-sized fs a e.words.weight (1 + a + b) (1 + e.words.weight + f.words.weight) free one c (omega arith) (omega arith) (offset-stands op two.literal c is).fits
+        (coded fs (length names) lists a vs one e.words (and-first lists more listed) free le)
+    at None (Some d) is is' free listed le =
+        moved-sized fs b f.words.weight (1 + a + b) (1 + e.words.weight + f.words.weight) free two d (omega arith) (omega arith) (offset-stands op one.literal d is').fits
+        (coded fs (length names) more b ws two f.words (and-second lists more listed) free le)
+    at None None is is' free listed le =
+        let flat = expression_step names (Expr-F.Op op one two) in
+        moved-sized fs (1 + a + b) whole.weight (1 + a + b) whole.weight free flat (pos 0) (omega arith) (omega arith) refl
+        (coded fs (length names) (lists && more) (1 + a + b) (vs ++ ws) flat whole listed free le)
 
     by : (z : Bool) (o : Option Rel) (free : ℕ) → (lists && more) ≡ true → length names ≤ free
         → Tested fs (1 + a + b) (1 + e.words.weight + f.words.weight) free (if z then negation (one.test free) else compared_test o (operation op one two) one two free)
@@ -294,22 +336,22 @@ LayerSized fs names y =
 
 layer : (fs : List FlatFunc) (names : List Name) (y : Expr-F (Known fs names)) → LayerSized fs names (map-Expr (Known fs names) Expr (λ e. e.0) y)
 layer fs names (Expr-F.Literal n) =
-    itself fs (length names) true 1 [] None (Some n) (λ x free. roll-Stmt (Stmt-F.Lit x n) ∷ []) (literal-sized fs names n)
+    itself-measured fs (length names) true 1 [] None (Some n) (λ x free. roll-Stmt (Stmt-F.Lit x n) ∷ []) (literal-sized fs names n)
 layer fs names (Expr-F.Var x) =
-    itself fs (length names) (is_listed names x) 1 (x ∷ []) (Some (number names x)) None (λ z free. roll-Stmt (Stmt-F.Copy z (number names x)) ∷ []) (variable-sized fs names x)
+    itself-measured fs (length names) (is_listed names x) 1 (x ∷ []) (Some (number names x)) None (λ z free. roll-Stmt (Stmt-F.Copy z (number names x)) ∷ []) (variable-sized fs names x)
 layer fs names (Expr-F.Load size a) =
     let flat = expression_step names (Expr-F.Load size (expression names a.0)) in
-    itself fs (length names) (lists_expression names a.0) (1 + expression_bulk a.0) (expression_variables a.0) None None flat.into
-    (load-sized fs names (lists_expression names a.0) (expression_bulk a.0) (expression_variables a.0) (expression names a.0) a.1.words size)
+    itself-measured fs (length names) (lists_expression names a.0) (1 + expression_bulk a.0) (expression_variables a.0) None None flat.into
+    (load-sized fs names (lists_expression names a.0) (expression_bulk a.0) (expression_variables a.0) (expression names a.0) a.1 size)
 layer fs names (Expr-F.Table size bytes i) =
     let flat = expression_step names (Expr-F.Table size bytes (expression names i.0)) in
-    itself fs (length names) (lists_expression names i.0) (1 + words_for (length bytes) + expression_bulk i.0) (expression_variables i.0) None None flat.into
+    itself-measured fs (length names) (lists_expression names i.0) (1 + words_for (length bytes) + expression_bulk i.0) (expression_variables i.0) None None flat.into
     (table-sized fs names (lists_expression names i.0) (expression_bulk i.0) (expression_variables i.0) (expression names i.0) i.1.words size bytes)
 layer fs names (Expr-F.Op op a b) =
     op-measured fs names (lists_expression names a.0) (lists_expression names b.0) (expression_bulk a.0) (expression_bulk b.0) (expression_variables a.0) (expression_variables b.0) (expression names a.0) (expression names b.0) a.1 b.1 op
 layer fs names (Expr-F.Ite c a b) =
     let flat = expression_step names (Expr-F.Ite (expression names c.0) (expression names a.0) (expression names b.0)) in
-    itself fs (length names) (lists_expression names c.0 && (lists_expression names a.0 && lists_expression names b.0)) (1 + expression_bulk c.0 + expression_bulk a.0 + expression_bulk b.0)
+    itself-measured fs (length names) (lists_expression names c.0 && (lists_expression names a.0 && lists_expression names b.0)) (1 + expression_bulk c.0 + expression_bulk a.0 + expression_bulk b.0)
     (expression_variables c.0 ++ (expression_variables a.0 ++ expression_variables b.0)) None None flat.into
     (ite-sized fs names (lists_expression names c.0) (lists_expression names a.0) (lists_expression names b.0) (expression_bulk c.0) (expression_bulk a.0) (expression_bulk b.0)
     (expression_variables c.0) (expression_variables a.0) (expression_variables b.0) (expression names c.0) (expression names a.0) (expression names b.0) c.1 a.1.words b.1.words)

@@ -7,6 +7,7 @@ use Rattle.br_words.specs.declared.operation.BinOp.{BinOp}
 use Rattle.br_words.specs.Size.{size_of}
 use Rattle.br_words.specs.Words.{flag, wrapped, value_of_op}
 use Rattle.br_bytes.specs.Number.{number_of}
+use Rattle.br_bytes.specs.Memory as memory
 use Rattle.br_bytes.specs.Memory.{Memory, get_number}
 use Rattle.br_bytes.specs.Buffers.{table_number}
 use Rattle.br_bytes.specs.Runs.{Goes, with_defined, choose}
@@ -26,11 +27,11 @@ use Rattle.br_flatimp.specs.Values.{Locals, with_local, moved, compared}
 use Rattle.br_flatimp.specs.Matches.{IsSameDefined}
 use Rattle.br_flatimp.specs.Runs.{State, Run, Callee, set_to}
 use Rattle.br_flatten.specs.Tests.{relation, asks_zero, negation}
-use Rattle.br_flatten.specs.Constants.{constant, left_constant}
-use Rattle.br_flatten.specs.Flatten.{number, is_listed, lists_step, lists_expression, Flat, place, next, unless_variable, code, compared_test, tested_itself, with_constant, by_constants, operation, expression_step, expression}
-use Rattle.br_flatten.proofs.Numbers.{and-first, and-second, number-below, with-same, with-other, bytes-moved}
+use Rattle.br_flatten.specs.Constants.{constant, left_constant, byte_offset}
+use Rattle.br_flatten.specs.Flatten.{number, is_listed, lists_step, lists_expression, Flat, place, next, unless_variable, code, compared_test, itself, with_constant, by_constants, by_offsets, operation, expression_step, expression}
+use Rattle.br_flatten.proofs.Numbers.{and-first, and-second, number-below, with-same, with-other, same_bytes, place-moved}
 use Rattle.br_flatten.proofs.Turns.{does, does-after, does-one}
-use Rattle.br_flatten.proofs.Literals.{stands, exchanged}
+use Rattle.br_flatten.proofs.Literals.{stands, exchanged, offset-stands}
 use Rattle.br_flatten.proofs.Comparisons.{relation-value, zero_test, Tests, negation-tests}
 
 -- ---- what holds of an expression
@@ -130,24 +131,6 @@ record Then (f : ℕ → Option ℕ) (o : Option ℕ) (v : ℕ) : Type 0 where
 then_there : (f : ℕ → Option ℕ) (o : Option ℕ) (v : ℕ) → option_and_then f o ≡ Some v → Then f o v
 then_there f None v e = absurd (cc e)
 then_there f (Some w) v e = record { word = w; first = refl; second = e }
-
-load-claim : (names : List Name) (call : Callee) (lists : Bool) (flat : Flat) (word : source.Locals → Memory → Option ℕ) → Claim names call lists flat word → (size : Size)
-    → Claim names call lists (expression_step names (Expr-F.Load size flat)) (λ m k. option_and_then (λ a. get_number k a (size_of size)) (word m k))
-load-claim names call lists flat word claim size = record {
-  variable = λ y e listed. none_is_not y e;
-  literal = λ k e m memory. none_is_not k e;
-  variable_word = λ y e listed. none_is_not y e;
-  into = λ x free s m v listed le holds is.
-      let two = then_there (λ a. get_number s.memory a (size_of size)) (word m s.memory) v is in
-      let p = placed names call lists flat word claim free s m two.word listed le holds two.first in
-      let t : State = record s { locals = p.locals } in
-      let y : Stmt-F Stmt = Stmt-F.Load x size (place flat.variable free) (pos 0) in
-      sets_last (does call (code flat free ++ roll-Stmt y ∷ [])) s p.locals x v free
-      (does-after call (code flat free) (roll-Stmt y ∷ []) s t p.runs ∙ does-one call y t
-      ∙ ap (λ o. with_defined o t (λ a. with_defined (get_number t.memory (moved a (pos 0)) (size_of size)) t (λ v. Goes (set_to x v t)))) p.value
-      ∙ ap (λ o. with_defined (option_map number_of o) t (λ v. Goes (set_to x v t))) (bytes-moved s.memory (size_of size) two.word)
-      ∙ ap (λ o. with_defined o t (λ v. Goes (set_to x v t))) two.second) p.others;
-}
 
 table-claim : (names : List Name) (call : Callee) (lists : Bool) (flat : Flat) (word : source.Locals → Memory → Option ℕ) → Claim names call lists flat word → (size : Size) (bytes : List ℕ)
     → Claim names call lists (expression_step names (Expr-F.Table size bytes flat)) (λ m k. option_and_then (λ i. table_number bytes i (size_of size)) (word m k))
@@ -274,13 +257,26 @@ op-claim names call lists more one two word other claim claim' op = record {
         ∙ ap (λ r. Goes (set_to x r u)) p.is_made)
         p.others
 
--- ---- tests
+-- ---- tests and addresses
 
--- what holds of the statements of a word and of its test
+-- a run after which a word stands at a place, and an address is that word with a byte offset
+pub record Addressed (f : State → Run) (s : State) (at : ℕ) (offset : ℤ) (v free after : ℕ) : Type 0 where
+  pub locals : Locals
+  pub word : ℕ
+  pub runs : f s ≡ Goes (record s { locals = locals })
+  pub value : locals at ≡ Some word
+  pub same : memory.place (moved word offset) ≡ memory.place v
+  pub others : (y : ℕ) → y < free → locals y ≡ s.locals y
+  pub below : at < after
+  pub grows : free ≤ after
+
+-- what holds of the statements of a word, of its test and of the bytes at it
 pub record Claims (names : List Name) (call : Callee) (lists : Bool) (flat : Flat) (word : source.Locals → Memory → Option ℕ) : Type 0 where
   pub words : Claim names call lists flat word
   pub tests : (free : ℕ) (s : State) (m : source.Locals) (v : ℕ) → lists ≡ true → length names ≤ free → Holds names s.locals m → word m s.memory ≡ Some v
       → Tests (does call (flat.test free).before) s (flat.test free).cond v free (flat.test free).next
+  pub addresses : (free : ℕ) (s : State) (m : source.Locals) (v : ℕ) → lists ≡ true → length names ≤ free → Holds names s.locals m → word m s.memory ≡ Some v
+      → Addressed (does call (flat.address free).before) s (flat.address free).at (flat.address free).offset v free (flat.address free).next
 
 word-tests : (names : List Name) (call : Callee) (lists : Bool) (flat : Flat) (word : source.Locals → Memory → Option ℕ) → Claim names call lists flat word
     → (free : ℕ) (s : State) (m : source.Locals) (v : ℕ) → lists ≡ true → length names ≤ free → Holds names s.locals m → word m s.memory ≡ Some v
@@ -290,20 +286,89 @@ word-tests names call lists flat word claim free s m v listed le holds is =
     let below = p.below in
     record { locals = p.locals; runs = p.runs; word = p.value; others = p.others; below = omega (arith, below); grows = p.grows }
 
-itself : (names : List Name) (call : Callee) (lists : Bool) (variable literal : Option ℕ) (into : ℕ → ℕ → List Stmt) (word : source.Locals → Memory → Option ℕ)
-    → Claim names call lists (tested_itself variable literal into) word → Claims names call lists (tested_itself variable literal into) word
-itself names call lists variable literal into word claim =
-    record { words = claim; tests = λ free s m v listed le holds is. word-tests names call lists (tested_itself variable literal into) word claim free s m v listed le holds is }
+word-addressed : (names : List Name) (call : Callee) (lists : Bool) (flat : Flat) (word : source.Locals → Memory → Option ℕ) → Claim names call lists flat word
+    → (free : ℕ) (s : State) (m : source.Locals) (v : ℕ) → lists ≡ true → length names ≤ free → Holds names s.locals m → word m s.memory ≡ Some v
+    → Addressed (does call (code flat free)) s (place flat.variable free) (pos 0) v free (next flat.variable free)
+word-addressed names call lists flat word claim free s m v listed le holds is =
+    let p = placed names call lists flat word claim free s m v listed le holds is in
+    record { locals = p.locals; word = v; runs = p.runs; value = p.value; same = place-moved v; others = p.others; below = p.below; grows = p.grows }
+
+itself-claims : (names : List Name) (call : Callee) (lists : Bool) (variable literal : Option ℕ) (into : ℕ → ℕ → List Stmt) (word : source.Locals → Memory → Option ℕ)
+    → Claim names call lists (itself variable literal into) word → Claims names call lists (itself variable literal into) word
+itself-claims names call lists variable literal into word claim =
+    let flat = itself variable literal into in
+    record {
+      words = claim;
+      tests = λ free s m v listed le holds is. word-tests names call lists flat word claim free s m v listed le holds is;
+      addresses = λ free s m v listed le holds is. word-addressed names call lists flat word claim free s m v listed le holds is;
+    }
+
+load-claim : (names : List Name) (call : Callee) (lists : Bool) (flat : Flat) (word : source.Locals → Memory → Option ℕ) → Claims names call lists flat word → (size : Size)
+    → Claim names call lists (expression_step names (Expr-F.Load size flat)) (λ m k. option_and_then (λ a. get_number k a (size_of size)) (word m k))
+load-claim names call lists flat word claim size = record {
+  variable = λ y e listed. none_is_not y e;
+  literal = λ k e m memory. none_is_not k e;
+  variable_word = λ y e listed. none_is_not y e;
+  into = λ x free s m v listed le holds is.
+      let two = then_there (λ a. get_number s.memory a (size_of size)) (word m s.memory) v is in
+      let a = flat.address free in
+      let p = claim.addresses free s m two.word listed le holds two.first in
+      let t : State = record s { locals = p.locals } in
+      let y : Stmt-F Stmt = Stmt-F.Load x size a.at a.offset in
+      sets_last (does call (a.before ++ roll-Stmt y ∷ [])) s p.locals x v free
+      (does-after call a.before (roll-Stmt y ∷ []) s t p.runs ∙ does-one call y t
+      ∙ ap (λ o. with_defined o t (λ b. with_defined (get_number t.memory (moved b a.offset) (size_of size)) t (λ v. Goes (set_to x v t)))) p.value
+      ∙ ap (λ o. with_defined (option_map number_of o) t (λ v. Goes (set_to x v t))) (same_bytes s.memory (size_of size) (moved p.word a.offset) two.word p.same)
+      ∙ ap (λ o. with_defined o t (λ v. Goes (set_to x v t))) two.second) p.others;
+}
 
 op-claims : (names : List Name) (call : Callee) (lists more : Bool) (one two : Flat) (word other : source.Locals → Memory → Option ℕ) → Claims names call lists one word → Claims names call more two other → (op : BinOp)
     → Claims names call (lists && more) (expression_step names (Expr-F.Op op one two)) (λ m k. both (value_of_op op) (word m k) (other m k))
 op-claims names call lists more one two word other claim claim' op = record {
   words = whole;
-  tests = λ free s m v listed le holds is. by (asks_zero op two.literal) refl (relation op) refl free s m v listed le holds is;
+  tests = by (asks_zero op two.literal) refl (relation op) refl;
+  addresses = at (byte_offset op two.literal) refl (byte_offset op one.literal) refl;
 }
   where
     whole : Claim names call (lists && more) (expression_step names (Expr-F.Op op one two)) (λ m k. both (value_of_op op) (word m k) (other m k))
     whole = op-claim names call lists more one two word other claim.words claim'.words op
+
+    at : (c : Option ℤ) → byte_offset op two.literal ≡ c → (d : Option ℤ) → byte_offset op one.literal ≡ d
+        → (free : ℕ) (s : State) (m : source.Locals) (v : ℕ) → (lists && more) ≡ true → length names ≤ free → Holds names s.locals m → both (value_of_op op) (word m s.memory) (other m s.memory) ≡ Some v
+        → Addressed (does call (by_offsets c d (operation op one two) one two free).before) s (by_offsets c d (operation op one two) one two free).at
+        (by_offsets c d (operation op one two) one two free).offset v free (by_offsets c d (operation op one two) one two free).next
+    at (Some c) e d f free s m v listed le holds is =
+        let w = both_there (value_of_op op) (word m s.memory) (other m s.memory) v is in
+        let z = offset-stands op two.literal c e in
+        let same : w.two ≡ z.word = some_same w.two z.word (sym w.second ∙ claim'.words.literal z.word z.is m s.memory) in
+        let p = placed names call lists one word claim.words free s m w.one (and-first lists more listed) le holds w.first in
+        record {
+          locals = p.locals;
+          word = w.one;
+          runs = p.runs;
+          value = p.value;
+          same = ap memory.place (z.moves w.one ∙ ap (value_of_op op w.one) (sym same) ∙ w.made);
+          others = p.others;
+          below = p.below;
+          grows = p.grows;
+        }
+    at None e (Some d) f free s m v listed le holds is =
+        let w = both_there (value_of_op op) (word m s.memory) (other m s.memory) v is in
+        let z = offset-stands op one.literal d f in
+        let same : w.one ≡ z.word = some_same w.one z.word (sym w.first ∙ claim.words.literal z.word z.is m s.memory) in
+        let p = placed names call more two other claim'.words free s m w.two (and-second lists more listed) le holds w.second in
+        record {
+          locals = p.locals;
+          word = w.two;
+          runs = p.runs;
+          value = p.value;
+          same = ap memory.place (z.moves w.two ∙ z.exchanges w.two z.word ∙ ap (λ q. value_of_op op q w.two) (sym same) ∙ w.made);
+          others = p.others;
+          below = p.below;
+          grows = p.grows;
+        }
+    at None e None f free s m v listed le holds is =
+        word-addressed names call (lists && more) (expression_step names (Expr-F.Op op one two)) (λ m k. both (value_of_op op) (word m k) (other m k)) whole free s m v listed le holds is
 
     by : (b : Bool) → asks_zero op two.literal ≡ b → (o : Option Rel) → relation op ≡ o
         → (free : ℕ) (s : State) (m : source.Locals) (v : ℕ) → (lists && more) ≡ true → length names ≤ free → Holds names s.locals m → both (value_of_op op) (word m s.memory) (other m s.memory) ≡ Some v
@@ -386,21 +451,21 @@ LayerClaim names call y =
     Claims names call (lists_step names (map-Expr Expr Bool (lists_expression names) y)) (expression_step names (map-Expr Expr Flat (expression names) y)) (λ m k. value_step m k (map-Expr Expr (Option ℕ) (value m k) y))
 
 layer : (names : List Name) (call : Callee) (y : Expr-F (Known names call)) → LayerClaim names call (map-Expr (Known names call) Expr (λ e. e.0) y)
-layer names call (Expr-F.Literal n) = itself names call true None (Some n) (λ x free. roll-Stmt (Stmt-F.Lit x n) ∷ []) (λ m k. Some n) (literal-claim names call n)
-layer names call (Expr-F.Var x) = itself names call (is_listed names x) (Some (number names x)) None (λ z free. roll-Stmt (Stmt-F.Copy z (number names x)) ∷ []) (λ m k. m x) (variable-claim names call x)
+layer names call (Expr-F.Literal n) = itself-claims names call true None (Some n) (λ x free. roll-Stmt (Stmt-F.Lit x n) ∷ []) (λ m k. Some n) (literal-claim names call n)
+layer names call (Expr-F.Var x) = itself-claims names call (is_listed names x) (Some (number names x)) None (λ z free. roll-Stmt (Stmt-F.Copy z (number names x)) ∷ []) (λ m k. m x) (variable-claim names call x)
 layer names call (Expr-F.Load size a) =
     let flat = expression_step names (Expr-F.Load size (expression names a.0)) in
-    itself names call (lists_expression names a.0) None None flat.into (λ m k. option_and_then (λ a. get_number k a (size_of size)) (value m k a.0))
-    (load-claim names call (lists_expression names a.0) (expression names a.0) (λ m k. value m k a.0) a.1.words size)
+    itself-claims names call (lists_expression names a.0) None None flat.into (λ m k. option_and_then (λ a. get_number k a (size_of size)) (value m k a.0))
+    (load-claim names call (lists_expression names a.0) (expression names a.0) (λ m k. value m k a.0) a.1 size)
 layer names call (Expr-F.Table size bytes i) =
     let flat = expression_step names (Expr-F.Table size bytes (expression names i.0)) in
-    itself names call (lists_expression names i.0) None None flat.into (λ m k. option_and_then (λ i. table_number bytes i (size_of size)) (value m k i.0))
+    itself-claims names call (lists_expression names i.0) None None flat.into (λ m k. option_and_then (λ i. table_number bytes i (size_of size)) (value m k i.0))
     (table-claim names call (lists_expression names i.0) (expression names i.0) (λ m k. value m k i.0) i.1.words size bytes)
 layer names call (Expr-F.Op op a b) =
     op-claims names call (lists_expression names a.0) (lists_expression names b.0) (expression names a.0) (expression names b.0) (λ m k. value m k a.0) (λ m k. value m k b.0) a.1 b.1 op
 layer names call (Expr-F.Ite c a b) =
     let flat = expression_step names (Expr-F.Ite (expression names c.0) (expression names a.0) (expression names b.0)) in
-    itself names call (lists_expression names c.0 && (lists_expression names a.0 && lists_expression names b.0)) None None flat.into (λ m k. selected (value m k c.0) (value m k a.0) (value m k b.0))
+    itself-claims names call (lists_expression names c.0 && (lists_expression names a.0 && lists_expression names b.0)) None None flat.into (λ m k. selected (value m k c.0) (value m k a.0) (value m k b.0))
     (ite-claim names call (lists_expression names c.0) (lists_expression names a.0) (lists_expression names b.0) (expression names c.0) (expression names a.0) (expression names b.0) (λ m k. value m k c.0) (λ m k. value m k a.0) (λ m k. value m k b.0) c.1 a.1.words b.1.words)
 
 pub expression_claim : (names : List Name) (call : Callee) (e : Expr) → ExpressionClaim names call e

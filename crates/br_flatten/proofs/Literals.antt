@@ -5,8 +5,9 @@ use Rattle.std.proofs.lemmas.Nat.{and_comm, or_comm, xor_comm}
 use Rattle.br_words.specs.declared.operation.BinOp.{BinOp}
 use Rattle.br_words.specs.declared.operation.BinOp.TheVariants as op
 use Rattle.br_words.specs.Words.{signed, wrapped, flag, value_of_op}
-use Rattle.br_flatimp.specs.WellFormed.{fits_operation}
-use Rattle.br_flatten.specs.Constants.{constant, commutes, left_constant}
+use Rattle.br_flatimp.specs.Values.{moved}
+use Rattle.br_flatimp.specs.WellFormed.{fits_operation, is_immediate}
+use Rattle.br_flatten.specs.Constants.{constant, commutes, left_constant, byte_offset}
 use Rattle.br_flatten.proofs.Numbers.{and-first, and-second}
 
 -- a constant of an operation in the place of a literal
@@ -78,3 +79,30 @@ exchanged o literal c e = by (commutes o) refl e
     by : (b : Bool) → commutes o ≡ b → (if b then constant o literal else None) ≡ Some c → Exchanged o literal c
     by true free e = record { stands = stands o literal c e; exchanges = commuting o free }
     by false kept e = absurd (cc e)
+
+-- a byte offset in the place of a literal
+pub record Offset (o : BinOp) (literal : Option ℕ) (c : ℤ) : Type 0 where
+  pub word : ℕ
+  pub is : literal ≡ Some word
+  pub moves : (a : ℕ) → moved a c ≡ value_of_op o a word
+  pub exchanges : (a b : ℕ) → value_of_op o a b ≡ value_of_op o b a
+  pub fits : is_immediate c ≡ true
+
+pub offset-stands : (o : BinOp) (literal : Option ℕ) (c : ℤ) → byte_offset o literal ≡ Some c → Offset o literal c
+offset-stands op.Add literal c e =
+    let z = stands op.Add literal c e in
+    record { word = z.word; is = z.is; moves = λ a. ap (value_of_op op.Add a) z.same; exchanges = commuting op.Add refl; fits = z.fits }
+offset-stands op.Sub literal c e = absurd (cc e)
+offset-stands op.Mul literal c e = absurd (cc e)
+offset-stands op.Mulhuu literal c e = absurd (cc e)
+offset-stands op.Divu literal c e = absurd (cc e)
+offset-stands op.Remu literal c e = absurd (cc e)
+offset-stands op.And literal c e = absurd (cc e)
+offset-stands op.Or literal c e = absurd (cc e)
+offset-stands op.Xor literal c e = absurd (cc e)
+offset-stands op.Sru literal c e = absurd (cc e)
+offset-stands op.Slu literal c e = absurd (cc e)
+offset-stands op.Srs literal c e = absurd (cc e)
+offset-stands op.Lts literal c e = absurd (cc e)
+offset-stands op.Ltu literal c e = absurd (cc e)
+offset-stands op.Eq literal c e = absurd (cc e)

@@ -54,24 +54,18 @@ with-other x v y l ne = ap (λ b. if b then Some v else l y) (not_equal x y ne)
 next_place : (a b : ℕ) → place a ≡ place b → place (a + 1) ≡ place (b + 1)
 next_place a b e = omega (arith, e)
 
-same_bytes : (m : Memory) (n a b : ℕ) → place a ≡ place b → bytes_at m a n ≡ bytes_at m b n
+pub same_bytes : (m : Memory) (n a b : ℕ) → place a ≡ place b → bytes_at m a n ≡ bytes_at m b n
 same_bytes m zero a b e = refl
 same_bytes m (suc n) a b e =
     ap (λ q. in_front (map.get m q) (bytes_at m (a + 1) n)) e ∙ ap (in_front (map.get m (place b))) (same_bytes m n (a + 1) (b + 1) (next_place a b e))
 
-same_written : (m : Memory) (bs : List ℕ) (a b : ℕ) → place a ≡ place b → with_bytes m a bs ≡ with_bytes m b bs
+pub same_written : (m : Memory) (bs : List ℕ) (a b : ℕ) → place a ≡ place b → with_bytes m a bs ≡ with_bytes m b bs
 same_written m [] a b e = refl
 same_written m (x ∷ bs) a b e =
     ap (λ q. map.insert (with_bytes m (a + 1) bs) q x) e ∙ ap (λ k. map.insert k (place b) x) (same_written m bs (a + 1) (b + 1) (next_place a b e))
 
-place_moved : (a : ℕ) → place (moved a (pos 0)) ≡ place a
-place_moved a = twice a
+pub place-moved : (a : ℕ) → place (moved a (pos 0)) ≡ place a
+place-moved a = twice a
   where
     twice : (a : ℕ) → ((a + 0) % 2 ^ 32) % 2 ^ 32 ≡ a % 2 ^ 32
     twice a = omega arith
-
-pub bytes-moved : (m : Memory) (n a : ℕ) → bytes_at m (moved a (pos 0)) n ≡ bytes_at m a n
-bytes-moved m n a = same_bytes m n (moved a (pos 0)) a (place_moved a)
-
-pub with_bytes-moved : (m : Memory) (bs : List ℕ) (a : ℕ) → with_bytes m (moved a (pos 0)) bs ≡ with_bytes m a bs
-with_bytes-moved m bs a = same_written m bs (moved a (pos 0)) a (place_moved a)

@@ -1,10 +1,11 @@
 -- Pieces of commands in flat statements: operands in turn, devices, variables that are set, and loops.
-use Rattle.std.proofs.Common.{◌≡◌, ◌≢◌, inl, inr, ℕ, zero, suc, ◌<◌, ◌≤◌, ◌==◌, Bool, true, false, if◌then◌else◌, List, [], ◌∷◌, ◌++◌, map, length, Option, Some, None, refl, sym, ap, subst, ◌∙◌, arith, pos, codes}
+use Rattle.std.proofs.Common.{◌≡◌, ◌≢◌, inl, inr, ℕ, zero, suc, ◌<◌, ◌≤◌, ◌==◌, Bool, true, false, if◌then◌else◌, List, [], ◌∷◌, ◌++◌, map, length, Option, Some, None, refl, sym, ap, subst, ◌∙◌, arith, codes}
 use Rattle.std.specs.Option.{option_map, option_and_then}
 use Rattle.std.specs.Str.{bytes_eq}
 use Rattle.std.proofs.lemmas.Slice.Eq.{bytes_eq-Decides}
 use Rattle.br_bytes.specs.declared.run.Event.TheVariants.{Read, Write}
 use Rattle.br_bytes.specs.Number.{low_bytes}
+use Rattle.br_bytes.specs.Memory as memory
 use Rattle.br_bytes.specs.Memory.{Memory, in_front, bytes_at, put_number, with_bytes}
 use Rattle.br_bytes.specs.Runs.{OutOfFuel, Undefined, Goes, Ends, then_do, with_defined, choose, with_fuel, loop, read_device, write_device}
 use Rattle.br_syntax.specs.declared.program.Expr.{Expr}
@@ -13,12 +14,12 @@ use Rattle.br_source_meaning.specs.Values.{Name, value, values, without_local}
 use Rattle.br_source_meaning.specs.Runs as src
 use Rattle.br_source_meaning.specs.Runs.{read_by, write_by, interact}
 use Rattle.br_flatimp.specs.declared.program.Stmt.TheOpen.{Stmt-F}
-use Rattle.br_flatimp.specs.Values.{Locals, with_local, with_locals, words_of, moved}
+use Rattle.br_flatimp.specs.Values.{Locals, with_local, with_locals, words_of}
 use Rattle.br_flatimp.specs.Matches.{SameOutside, Beside, Matches, IsSameDefined}
 use Rattle.br_flatimp.specs.Runs.{State, Run, Callee}
 use Rattle.br_flatimp.proofs.Matches.{matches-undefined, matches-then_do, matches-choose, matches-with_fuel, matches-read_device, matches-write_device}
 use Rattle.br_flatten.specs.Flatten.{number, is_listed, lists_names, lists_expression, lists_expressions, place, next, code, codes_of, places_of, read_statements, write_statements, device_statements, expression}
-use Rattle.br_flatten.proofs.Numbers.{and-first, and-second, number-below, number-same, with-same, with-other, bytes-moved, with_bytes-moved}
+use Rattle.br_flatten.proofs.Numbers.{and-first, and-second, number-below, number-same, with-same, with-other, same_bytes, same_written}
 use Rattle.br_flatten.proofs.Turns.{does, does-after, does-one}
 use Rattle.br_flatten.proofs.Expressions.{Holds, holds-kept, placed, expression_claim}
 
@@ -80,9 +81,9 @@ holds-set_all names (x ∷ xs) (v ∷ vs) l m listed size h =
 
 -- ---- bytes in memory
 
-pub put-moved : (m : Memory) (a n v : ℕ) → put_number m (moved a (pos 0)) n v ≡ put_number m a n v
-put-moved m a n v =
-    ap (option_map (λ _. with_bytes m (moved a (pos 0)) (low_bytes n v))) (bytes-moved m n a) ∙ ap (λ k. option_map (λ _. k) (bytes_at m a n)) (with_bytes-moved m (low_bytes n v) a)
+pub put-same : (m : Memory) (a b n v : ℕ) → memory.place a ≡ memory.place b → put_number m a n v ≡ put_number m b n v
+put-same m a b n v same =
+    ap (option_map (λ _. with_bytes m a (low_bytes n v))) (same_bytes m n a b same) ∙ ap (λ k. option_map (λ _. k) (bytes_at m b n)) (same_written m (low_bytes n v) a b same)
 
 -- ---- operands in turn
 

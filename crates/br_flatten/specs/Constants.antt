@@ -31,3 +31,21 @@ commutes op.Ltu = false
 -- the constant that an operation may have in the place of a literal on its left
 abbrev pub left_constant : BinOp → Option ℕ → Option ℤ
 left_constant op literal = if commutes op then constant op literal else None
+
+-- the byte offset that an operation with this literal adds to the word of its other operand
+abbrev pub byte_offset : BinOp → Option ℕ → Option ℤ
+byte_offset op.Add literal = constant op.Add literal
+byte_offset op.Sub literal = None
+byte_offset op.Mul literal = None
+byte_offset op.Mulhuu literal = None
+byte_offset op.Divu literal = None
+byte_offset op.Remu literal = None
+byte_offset op.And literal = None
+byte_offset op.Or literal = None
+byte_offset op.Xor literal = None
+byte_offset op.Sru literal = None
+byte_offset op.Slu literal = None
+byte_offset op.Srs literal = None
+byte_offset op.Lts literal = None
+byte_offset op.Ltu literal = None
+byte_offset op.Eq literal = None

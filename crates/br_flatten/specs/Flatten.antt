@@ -1,8 +1,8 @@
 -- The flat statements of expressions, commands, functions and programs. A variable's number is the place of
 -- its name in a list of names; the numbers from the length of that list on are temporaries. Each word of an
 -- expression goes to a temporary or straight to the variable that is set, and a variable is used where it is.
--- A literal that an operation may have as a constant is no word, and a comparison that is tested is none, but
--- what the test asks.
+-- A literal that an operation may have as a constant is no word, nor is one that is the byte offset of an
+-- address, and a comparison that is tested is none, but what the test asks.
 use Rattle.std.specs.Prelude.{ℕ, suc, max, Bool, true, false, ◌||◌, ◌&&◌, List, [], ◌∷◌, ◌++◌, map, length, Option, Some, None, ℤ, pos, if◌then◌else◌, codes}
 use Rattle.std.specs.List.{flat_map, list_all}
 use Rattle.std.specs.Str.{bytes_eq}
@@ -24,7 +24,7 @@ use Rattle.br_flatimp.specs.declared.program.Stmt.TheViews.{roll-Stmt}
 use Rattle.br_flatimp.specs.declared.program.FlatFunc.{FlatFunc}
 use Rattle.br_flatimp.specs.Parts.{statement_names}
 use Rattle.br_flatten.specs.Tests.{Test, relation, asks_zero, negation}
-use Rattle.br_flatten.specs.Constants.{constant, left_constant}
+use Rattle.br_flatten.specs.Constants.{constant, left_constant, byte_offset}
 
 -- ---- names
 
@@ -77,6 +77,14 @@ lists_function names f = lists_names names f.args && (lists_names names f.result
 
 -- ---- expressions
 
+-- where the bytes at an address stand: the statements before, the place of a word, the first temporary that is
+-- free after it, and a byte offset
+pub record Address : Type 0 where
+  pub before : List Stmt
+  pub at : ℕ
+  pub next : ℕ
+  pub offset : ℤ
+
 -- an expression, as statements
 pub record Flat : Type 0 where
   -- the number of the variable that it is, where it is one
@@ -87,6 +95,8 @@ pub record Flat : Type 0 where
   pub into : ℕ → ℕ → List Stmt
   -- the test that holds where its word is not 0, where the temporaries from a number on are free
   pub test : ℕ → Test
+  -- where the bytes at its word stand, where the temporaries from a number on are free
+  pub address : ℕ → Address
 
 -- where the word of an operand stands: in its variable, or in the first free temporary
 abbrev pub place : Option ℕ → ℕ → ℕ
@@ -114,6 +124,15 @@ word_test variable into free = record {
   next = next variable free;
 }
 
+-- the word of an operand as an address
+abbrev pub word_address : Option ℕ → (ℕ → ℕ → List Stmt) → ℕ → Address
+word_address variable into free = record {
+  before = unless_variable variable (into free (suc free));
+  at = place variable free;
+  next = next variable free;
+  offset = pos 0;
+}
+
 -- a test that compares two operands
 abbrev pub comparison : Rel → Flat → Flat → ℕ → Test
 comparison r a b free = record {
@@ -135,10 +154,15 @@ operation_test op into a b free =
 abbrev pub branches : Test → List Stmt → List Stmt → List Stmt
 branches t first second = t.before ++ roll-Stmt (Stmt-F.If t.cond first second) ∷ []
 
--- an expression whose word itself is tested
-abbrev pub tested_itself : Option ℕ → Option ℕ → (ℕ → ℕ → List Stmt) → Flat
-tested_itself variable literal into =
-    record { variable = variable; literal = literal; into = into; test = word_test variable into }
+-- an expression whose word itself is tested, and is an address
+abbrev pub itself : Option ℕ → Option ℕ → (ℕ → ℕ → List Stmt) → Flat
+itself variable literal into = record {
+  variable = variable;
+  literal = literal;
+  into = into;
+  test = word_test variable into;
+  address = word_address variable into;
+}
 
 -- an operation on an operand and a constant
 abbrev pub with_constant : BinOp → Flat → ℤ → ℕ → ℕ → List Stmt
@@ -159,19 +183,42 @@ by_constants None None op a b = with_names op a b
 abbrev pub operation : BinOp → Flat → Flat → ℕ → ℕ → List Stmt
 operation op a b = by_constants (constant op b.literal) (left_constant op a.literal) op a b
 
+-- an operand and a byte offset
+abbrev pub moved_address : Flat → ℤ → ℕ → Address
+moved_address a c free =
+    record { before = code a free; at = place a.variable free; next = next a.variable free; offset = c }
+
+-- an operation as an address, given the byte offsets in the place of its operands
+abbrev pub by_offsets : Option ℤ → Option ℤ → (ℕ → ℕ → List Stmt) → Flat → Flat → ℕ → Address
+by_offsets (Some c) left into a b = moved_address a c
+by_offsets None (Some c) into a b = moved_address b c
+by_offsets None None into a b = word_address None into
+
+abbrev pub operation_address : BinOp → (ℕ → ℕ → List Stmt) → Flat → Flat → ℕ → Address
+operation_address op into a b = by_offsets (byte_offset op b.literal) (byte_offset op a.literal) into a b
+
 -- an expression, given the statements of its parts
 abbrev pub expression_step : List Name → Expr-F Flat → Flat
-expression_step names (Expr-F.Literal n) = tested_itself None (Some n) (λ x free. roll-Stmt (Stmt-F.Lit x n) ∷ [])
+expression_step names (Expr-F.Literal n) = itself None (Some n) (λ x free. roll-Stmt (Stmt-F.Lit x n) ∷ [])
 expression_step names (Expr-F.Var y) =
-    tested_itself (Some (number names y)) None (λ x free. roll-Stmt (Stmt-F.Copy x (number names y)) ∷ [])
+    itself (Some (number names y)) None (λ x free. roll-Stmt (Stmt-F.Copy x (number names y)) ∷ [])
 expression_step names (Expr-F.Load size a) =
-    tested_itself None None (λ x free. code a free ++ roll-Stmt (Stmt-F.Load x size (place a.variable free) (pos 0)) ∷ [])
+    itself None None (λ x free. load x (a.address free))
+  where
+    load : ℕ → Address → List Stmt
+    load x a = a.before ++ roll-Stmt (Stmt-F.Load x size a.at a.offset) ∷ []
 expression_step names (Expr-F.Table size bytes i) =
-    tested_itself None None (λ x free. code i free ++ roll-Stmt (Stmt-F.Table x size bytes (place i.variable free)) ∷ [])
+    itself None None (λ x free. code i free ++ roll-Stmt (Stmt-F.Table x size bytes (place i.variable free)) ∷ [])
 expression_step names (Expr-F.Op op a b) =
-    record { variable = None; literal = None; into = operation op a b; test = operation_test op (operation op a b) a b }
+    record {
+      variable = None;
+      literal = None;
+      into = operation op a b;
+      test = operation_test op (operation op a b) a b;
+      address = operation_address op (operation op a b) a b;
+    }
 expression_step names (Expr-F.Ite test a b) =
-    tested_itself None None (λ x free. branches (test.test free) (a.into x free) (b.into x free))
+    itself None None (λ x free. branches (test.test free) (a.into x free) (b.into x free))
 
 abbrev pub expression : List Name → Expr → Flat
 expression names = fold-Expr Flat (expression_step names)
@@ -213,11 +260,10 @@ abbrev pub command_step : List Func → List Name → Cmd-F (List Stmt) → List
 command_step fs names Cmd-F.Skip = []
 command_step fs names (Cmd-F.Set x e) = (expression names e).into (number names x) (length names)
 command_step fs names (Cmd-F.Unset x) = []
-command_step fs names (Cmd-F.Store size a e) = store (expression names a) (expression names e) (length names)
+command_step fs names (Cmd-F.Store size a e) = store ((expression names a).address (length names)) (expression names e)
   where
-    store : Flat → Flat → ℕ → List Stmt
-    store a e free = code a free ++ (code e (next a.variable free)
-        ++ roll-Stmt (Stmt-F.Store size (place a.variable free) (place e.variable (next a.variable free)) (pos 0)) ∷ [])
+    store : Address → Flat → List Stmt
+    store a e = a.before ++ (code e a.next ++ roll-Stmt (Stmt-F.Store size a.at (place e.variable a.next) a.offset) ∷ [])
 command_step fs names (Cmd-F.Stackalloc x n body) = roll-Stmt (Stmt-F.Stackalloc (number names x) n (joined body)) ∷ []
 command_step fs names (Cmd-F.If e first second) =
     branches ((expression names e).test (length names)) (joined first) (joined second)

@@ -2,7 +2,7 @@
 
 ghost use Rattle.std.specs.Prelude.{◌≡◌};
 ghost use Rattle.br_flatimp.specs.WellFormed.{fits_operation};
-ghost use Rattle.br_flatten.specs.Constants.{commutes, constant, left_constant};
+ghost use Rattle.br_flatten.specs.Constants.{byte_offset, commutes, constant, left_constant};
 
 use br_words::BinOp;
 
@@ -27,6 +27,18 @@ pub(crate) fn left_constant(op: BinOp, literal: Option<u32>) -> Option<i32>
         constant(op, literal)
     } else {
         None
+    }
+}
+
+/// The byte offset that an operation with this literal adds to the word of its other operand.
+pub(crate) fn byte_offset(op: BinOp, literal: Option<u32>) -> Option<i32>
+    ensures { result ≡ byte_offset op literal }
+{
+    match op {
+        BinOp::Add => constant(BinOp::Add, literal),
+        BinOp::Sub | BinOp::Mul | BinOp::Mulhuu | BinOp::Divu | BinOp::Remu => None,
+        BinOp::And | BinOp::Or | BinOp::Xor | BinOp::Sru | BinOp::Slu | BinOp::Srs => None,
+        BinOp::Lts | BinOp::Ltu | BinOp::Eq => None,
     }
 }
 

@@ -1,7 +1,6 @@
 //! From the source language to flat programs: expressions become statements, and variables and
 //! functions become numbers. Here stand the definition of the flat statements of a program, the law
-//! that they refine it, and the function that makes them. Shorter forms, such as byte offsets of loads
-//! and stores, are to come.
+//! that they refine it, and the function that makes them.
 #![tactic(auto)]
 
 mod compare;

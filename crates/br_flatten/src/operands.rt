@@ -1,4 +1,4 @@
-// The statements of expressions, of their words and as tests.
+// The statements of expressions: of their words, as tests, and as addresses.
 
 ghost use Rattle.std.specs.Prelude.{◌≡◌, ◌≤◌, ◌+◌, ◌++◌, map, IfOk, OnOk};
 ghost use Rattle.br_flatten.specs.Flatten.{code, codes_of, expression, next, place, places_of};
@@ -6,7 +6,7 @@ ghost use Rattle.br_flatten.specs.Numbering.{listed};
 ghost use Rattle.br_measure.specs.Bulk.{expression_bulk, expressions_bulk};
 
 use crate::compare::{Tested, asks_zero, negation, relation};
-use crate::constants::{constant, left_constant};
+use crate::constants::{byte_offset, constant, left_constant};
 use crate::scope::Scope;
 use br_base::NoMemory;
 use br_flatimp::{Cond, Operand, Stmt};
@@ -41,8 +41,8 @@ pub(crate) fn into(
             out.push(Stmt::Copy(x, scope.variable(y)))?;
         }
         Expr::Load(size, a) => {
-            let address = operand(scope, a.get(), free, out)?;
-            out.push(Stmt::Load(x, *size, address.at, 0))?;
+            let from = address(scope, a.get(), free, out)?;
+            out.push(Stmt::Load(x, *size, from.at, from.offset))?;
         }
         Expr::Table(size, bytes, i) => {
             let offset = operand(scope, i.get(), free, out)?;
@@ -72,6 +72,55 @@ pub(crate) fn into(
         }
     }
     Ok(())
+}
+
+/// Where the bytes at an address stand, and the first temporary that is free after it.
+#[derive(Clone, Copy)]
+pub(crate) struct Addressed {
+    pub(crate) at: u32,
+    pub(crate) next: u32,
+    pub(crate) offset: i32,
+}
+
+/// Adds the statements before bytes are found at the word of an expression.
+#[cycle(expression)]
+pub(crate) fn address(
+    scope: &Scope,
+    e: &Expr,
+    free: u32,
+    out: &mut Items<Stmt>,
+) -> Result<Addressed, NoMemory>
+    requires { free + expression_bulk e.now ≤ 4294967295 }
+    ensures before { OnOk result (out.new ≡ out.old ++ ((expression (listed scope.now.variables.now.names) e.now).address free).before) }
+    ensures at { IfOk result (λ a. a.at ≡ ((expression (listed scope.now.variables.now.names) e.now).address free).at) }
+    ensures next { IfOk result (λ a. a.next ≡ ((expression (listed scope.now.variables.now.names) e.now).address free).next) }
+    ensures offset { IfOk result (λ a. a.offset ≡ ((expression (listed scope.now.variables.now.names) e.now).address free).offset) }
+    ensures room { IfOk result (λ a. a.next ≤ free + expression_bulk e.now) }
+{
+    if let Expr::Op(op, a, b) = e {
+        if let Some(offset) = byte_offset(*op, scope.literal(b.get())) {
+            let base = operand(scope, a.get(), free, out)?;
+            return Ok(Addressed {
+                at: base.at,
+                next: base.next,
+                offset,
+            });
+        }
+        if let Some(offset) = byte_offset(*op, scope.literal(a.get())) {
+            let base = operand(scope, b.get(), free, out)?;
+            return Ok(Addressed {
+                at: base.at,
+                next: base.next,
+                offset,
+            });
+        }
+    }
+    let word = operand(scope, e, free, out)?;
+    Ok(Addressed {
+        at: word.at,
+        next: word.next,
+        offset: 0,
+    })
 }
 
 /// Adds the statements of an operand: none where it is a variable, and else those that set the first

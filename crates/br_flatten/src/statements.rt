@@ -5,7 +5,7 @@ ghost use Rattle.br_flatten.specs.Flatten.{command, commands, device_statements,
 ghost use Rattle.br_flatten.specs.Numbering.{listed};
 ghost use Rattle.br_measure.specs.Bulk.{command_bulk, commands_bulk};
 
-use crate::operands::{into, operand, operands, tested};
+use crate::operands::{address, into, operand, operands, tested};
 use crate::scope::Scope;
 use br_base::{Name, NoMemory};
 use br_flatimp::Stmt;
@@ -36,9 +36,9 @@ fn command(scope: &Scope, c: &Cmd, out: &mut Items<Stmt>) -> Result<(), NoMemory
             into(scope, e, scope.variable(x), free, out)?;
         }
         Cmd::Store(size, a, e) => {
-            let address = operand(scope, a, free, out)?;
-            let value = operand(scope, e, address.next, out)?;
-            out.push(Stmt::Store(*size, address.at, value.at, 0))?;
+            let to = address(scope, a, free, out)?;
+            let value = operand(scope, e, to.next, out)?;
+            out.push(Stmt::Store(*size, to.at, value.at, to.offset))?;
         }
         Cmd::Stackalloc(x, n, inner) => {
             let mut body = Items::new(scope.alloc);

@@ -142,7 +142,7 @@ fn statements_of_texts(rt: HostRuntime) -> Result<(), Fail> {
         ),
         (
             "(fn f (p) () (store4 p (load1 (add p 1))) (store2 (add p p) p))",
-            "(0) -> () of 3: Add 2 0 #1; load One 1 2 0; store Four 0 1 0; \
+            "(0) -> () of 2: load One 1 0 1; store Four 0 1 0; \
             Add 1 0 0; store Two 1 0 0;\n",
         ),
         (
@@ -171,6 +171,13 @@ fn statements_of_texts(rt: HostRuntime) -> Result<(), Fail> {
             (set r (mul a 4)) (set r (ltu 3 a)))",
             "(0) -> (1) of 3: Add 1 0 #-2048; lit 2 4294965248; Sub 1 0 2; Eq 1 0 #3; \
             lit 2 4; Mul 1 0 2; lit 2 3; Ltu 1 2 0;\n",
+        ),
+        // What is added to an address is its byte offset, where it is from -2048 to 2047.
+        (
+            "(fn f (p) (r) (set r (load4 (add p 2047))) (store1 (add 0xfffff800 p) r) \
+            (set r (load2 (add p 2048))) (store4 (sub p 4) r))",
+            "(0) -> (1) of 4: load Four 1 0 2047; store One 0 1 -2048; \
+            lit 3 2048; Add 2 0 3; load Two 1 2 0; Sub 2 0 #4; store Four 2 1 0;\n",
         ),
         // A comparison is tested itself, and the opposite one where it is compared with 0.
         (
@@ -300,10 +307,10 @@ fn statements_of_examples(rt: HostRuntime) -> Result<(), Fail> {
             Divu 3 0 1; Or 2 2 3; Remu 3 0 1; And 2 2 3; Slu 3 0 1; Xor 2 2 3; Sru 3 0 1; \
             Xor 2 2 3; Srs 3 0 1; Xor 2 2 3; Lts 3 0 1; Add 2 2 3; Ltu 3 0 1; Add 2 2 3; \
             Eq 3 0 #42; Add 2 2 3; if Ltu 0 1 [ Sub 2 1 0; ] [ copy 2 2; ]\n\
-            () -> (0) of 4: stackalloc 1 8 [ lit 2 1; store One 1 2 0; Add 2 1 #2; lit 3 2; \
-            store Two 2 3 0; Add 2 1 #4; lit 3 4; store Four 2 3 0; load One 0 1 0; \
-            Add 3 1 #2; load Two 2 3 0; Add 0 0 2; \
-            Add 3 1 #4; load Four 2 3 0; Add 0 0 2; ] \
+            () -> (0) of 4: stackalloc 1 8 [ lit 2 1; store One 1 2 0; lit 2 2; \
+            store Two 1 2 2; lit 2 4; store Four 1 2 4; load One 0 1 0; \
+            load Two 2 1 2; Add 0 0 2; \
+            load Four 2 1 4; Add 0 0 2; ] \
             lit 3 3; table One 2 4 3; Add 0 0 2; lit 3 2; table Two 2 4 3; Add 0 0 2; \
             lit 3 0; table Four 2 4 3; Add 0 0 2;\n",
         ),
