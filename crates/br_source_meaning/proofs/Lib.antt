@@ -6,3 +6,5 @@ pub mod Kept
 pub mod Deep
 pub mod Frames
 pub mod Named
+pub mod Numbers
+pub mod Forms

@@ -1,43 +1,81 @@
-// The functions of a program by name.
+// The functions of a program, by number and by name.
 
-ghost use Rattle.std.specs.Prelude.{◌≡◌, ℕ, List, IfOk, option_copied};
+ghost use Rattle.std.specs.Prelude.{◌≡◌, ℕ, List, map, IfOk, option_copied};
+ghost use Rattle.std.specs.Option.{option_map};
 ghost use Rattle.std.specs.HashMap.{get_by};
 ghost use Rattle.std.specs.Str.{bytes_eq};
 ghost use Rattle.std.proofs.Props.{props};
 ghost use Rattle.br_syntax.specs.Functions.{function_named};
+ghost use Rattle.br_source_meaning.specs.Numbered.{listed, named_function, target_name};
 
-use br_base::{Name, NoMemory};
+use crate::numbered::{NumberedFunc, Target};
+use crate::numbering::NumberedProgram;
+use br_base::NoMemory;
 use br_syntax::Func;
 use indexmap::IndexMap;
+use sqlite_items::Items;
 use std::alloc::Global;
 
-/// The functions of a program, and the first of each name.
+/// The functions of a program: for each number the first of its name, and the first of each name.
 #[derive(Drop)]
-pub(crate) struct Functions<'a> {
+pub(crate) struct Functions<'x, 'a> {
     pub(crate) funcs: &'a [Func],
-    by_name: IndexMap<&'a [u8], &'a Func>,
-    ghost known: { (x : List ℕ) → option_copied (get_by (λ k. bytes_eq x k.now) by_name) ≡ function_named funcs.now x } by { Prim.hlevel props },
+    pub(crate) program: &'x NumberedProgram<'a>,
+    by_number: Items<Option<&'x NumberedFunc<'a>>>,
+    by_name: IndexMap<&'a [u8], &'x NumberedFunc<'a>>,
+    ghost numbered: { map (λ f. option_map (named_function (listed program.now.names.set)) (option_copied f)) by_number ≡ map (λ k. function_named funcs.now k.now) program.now.names.set.keys } by { Prim.hlevel props },
+    ghost known: { (x : List ℕ) → option_map (named_function (listed program.now.names.set)) (option_copied (get_by (λ k. bytes_eq x k.now) by_name)) ≡ function_named funcs.now x } by { Prim.hlevel props },
 }
 
-impl<'a> Functions<'a> {
-    /// The functions by name. They are added from the last to the first, so the first of a name stays.
-    pub(crate) fn new(alloc: Global, funcs: &'a [Func]) -> Result<Functions<'a>, NoMemory>
-        ensures { IfOk result (λ functions. functions.funcs.now ≡ funcs.now) }
+impl<'x, 'a> Functions<'x, 'a> {
+    /// The functions, which are given with numbers too. Those by name are added from the last to the
+    /// first, so the first of a name stays.
+    pub(crate) fn new(
+        alloc: Global,
+        funcs: &'a [Func],
+        program: &'x NumberedProgram<'a>,
+    ) -> Result<Functions<'x, 'a>, NoMemory>
+        requires { map (named_function (listed program.now.names.set)) program.now.funcs ≡ funcs.now }
+        ensures funcs { IfOk result (λ functions. functions.funcs.now ≡ funcs.now) }
+        ensures program { IfOk result (λ functions. functions.program.now ≡ program.now) }
     {
+        let numbered = program.funcs.as_slice();
         let mut by_name = IndexMap::new(alloc);
-        let mut i = funcs.len();
+        let mut i = numbered.len();
         while i > 0 {
             i -= 1;
-            let f = &funcs[i];
-            by_name.insert(f.name.bytes(), f)?;
+            let f = &numbered[i];
+            by_name.insert(f.func.name.bytes(), f)?;
         }
-        Ok(Functions { funcs, by_name })
+        let mut by_number = Items::new(alloc);
+        for name in program.names.set.as_slice() {
+            by_number.push(by_name.get(*name).copied())?;
+        }
+        Ok(Functions {
+            funcs,
+            program,
+            by_number,
+            by_name,
+        })
     }
 
-    /// The first function of a name.
-    pub(crate) fn named(&self, name: &Name) -> Option<&'a Func>
-        ensures { option_copied result ≡ function_named self.now.funcs.now name.now }
+    /// The first function of the name that a call has.
+    pub(crate) fn callee(&self, callee: &Target) -> Option<&'x NumberedFunc<'a>>
+        ensures { option_map (named_function (listed self.now.program.now.names.set)) (option_copied result) ≡ function_named self.now.funcs.now (target_name (listed self.now.program.now.names.set) callee.now) }
     {
-        self.by_name.get(name.bytes()).copied()
+        match callee {
+            Target::Number(k) => match self.by_number.get(*k) {
+                Some(f) => *f,
+                None => self.named(b"".as_slice()),
+            },
+            Target::Missing(name) => self.named(name.bytes()),
+        }
+    }
+
+    // The first function of a name.
+    fn named(&self, name: &[u8]) -> Option<&'x NumberedFunc<'a>>
+        ensures { option_map (named_function (listed self.now.program.now.names.set)) (option_copied result) ≡ function_named self.now.funcs.now name.now }
+    {
+        self.by_name.get(name).copied()
     }
 }

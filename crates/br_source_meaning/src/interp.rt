@@ -5,6 +5,7 @@ ghost use Rattle.br_source_meaning.specs.Calls.{call};
 ghost use Rattle.br_source_meaning.specs.Finished.{called_of, outcome_at};
 
 use crate::functions::Functions;
+use crate::numbering::NumberedProgram;
 use crate::running::{Running, Stop};
 use crate::variables::Variables;
 use br_base::{NoMemory, OrMemory};
@@ -74,7 +75,9 @@ impl<'a> Interp<'a> {
         ensures { IfOk result (λ done. called_of done ≡ call self.entry.program.now.funcs self.entry.func.now self.entry.args.now self.entry.memory self.entry.answers.now self.entry.choices.now fuel) }
     {
         let alloc = self.alloc;
-        let functions = Functions::new(alloc, self.program.funcs.as_slice())?;
+        let funcs = self.program.funcs.as_slice();
+        let program = NumberedProgram::new(alloc, funcs, self.func)?;
+        let functions = Functions::new(alloc, funcs, &program)?;
         let mut running = Running {
             variables: Variables::new(alloc),
             memory: self.memory,
@@ -83,7 +86,7 @@ impl<'a> Interp<'a> {
             choices: self.choices,
             fuel,
         };
-        let outcome = match running.function(alloc, &functions, self.func, self.args) {
+        let outcome = match running.function(alloc, &functions, self.args) {
             Ok(words) => Outcome::Done(words),
             Err(OrMemory::Fault(stop)) => outcome_at(stop),
             Err(OrMemory::Memory) => return Err(NoMemory),

@@ -6,6 +6,8 @@ mod functions;
 mod held;
 mod interp;
 mod laws;
+mod numbered;
+mod numbering;
 mod pending;
 mod running;
 mod values;

@@ -1,22 +1,43 @@
 // The work that a run still has to do.
 
-ghost use Rattle.std.specs.Prelude.{◌+◌, ◌≤◌, IfOk};
+ghost use Rattle.std.specs.Prelude.{ℕ, List, ◌+◌, ◌≤◌, IfOk};
 ghost use Rattle.br_source_meaning.specs.Runs.{State, Callee};
 ghost use Rattle.br_source_meaning.specs.Pending.{IsLaidDown, room, weigh};
 
 use crate::held::Held;
+use crate::numbered::{NumberedCmd, Target};
 use crate::variables::Variables;
 use br_base::{Name, NoMemory};
-use br_syntax::{Cmd, Expr};
+use br_syntax::Expr;
 use sqlite_items::Items;
+
+/// Commands in turn.
+#[derive(Debug, Drop)]
+pub(crate) struct Body<'x, 'a> {
+    pub(crate) commands: &'x [NumberedCmd<'a>],
+}
+
+/// A loop, by its test and its body.
+#[derive(Debug, Drop)]
+pub(crate) struct Looping<'x, 'a> {
+    pub(crate) test: &'a Expr,
+    pub(crate) commands: &'x [NumberedCmd<'a>],
+}
+
+/// The body of a buffer that is in memory.
+#[derive(Debug, Drop)]
+pub(crate) struct Block<'x, 'a> {
+    pub(crate) held: Held,
+    pub(crate) body: Body<'x, 'a>,
+}
 
 /// What is to be done after the command that runs.
 #[derive(Debug, Drop)]
-pub(crate) enum Frame<'a> {
+pub(crate) enum Frame<'x, 'a> {
     /// The rest of a body.
-    Body(&'a [Cmd]),
+    Body(Body<'x, 'a>),
     /// A loop, from its test on.
-    Loop(&'a Expr, &'a [Cmd]),
+    Loop(Looping<'x, 'a>),
     /// The end of a buffer: it leaves memory.
     Leave(Held),
     /// The end of a call: results of the callee, and the caller's variables that they are for.
@@ -29,32 +50,32 @@ pub(crate) enum Frame<'a> {
 
 /// What takes a unit of fuel before it begins.
 #[derive(Debug, Drop)]
-pub(crate) enum Turn<'a> {
+pub(crate) enum Turn<'x, 'a> {
     /// A turn of a loop: its body, and the loop again.
-    Loop(&'a Expr, &'a [Cmd]),
+    Loop(Looping<'x, 'a>),
     /// A call: the variables for its results, the callee, and the words of its arguments.
-    Call(&'a [Name], &'a Name, Items<u32>),
+    Call(&'a [Name], &'x Target<'a>, Items<u32>),
 }
 
 /// What is left of a command.
 #[derive(Debug, Drop)]
-pub(crate) enum Work<'a> {
+pub(crate) enum Work<'x, 'a> {
     /// Nothing.
     Done,
     /// Commands in turn.
-    Body(&'a [Cmd]),
+    Body(Body<'x, 'a>),
     /// Commands in turn, after which a buffer leaves memory.
-    Buffer(Held, &'a [Cmd]),
+    Buffer(Block<'x, 'a>),
     /// What takes fuel.
-    Turn(Turn<'a>),
+    Turn(Turn<'x, 'a>),
 }
 
 /// Puts work on the work that is pending; what takes fuel is given back.
-pub(crate) fn lay_down<'a>(
-    pending: &mut Items<Frame<'a>>,
-    work: Work<'a>,
-) -> Result<Option<Turn<'a>>, NoMemory>
-    ensures same { (call : Callee) (s : State) → IsLaidDown result call pending.new pending.old work.entry s }
+pub(crate) fn lay_down<'x, 'a>(
+    pending: &mut Items<Frame<'x, 'a>>,
+    work: Work<'x, 'a>,
+) -> Result<Option<Turn<'x, 'a>>, NoMemory>
+    ensures same { (names : List (List ℕ)) (call : Callee) (s : State) → IsLaidDown result names call pending.new pending.old work.entry s }
     ensures light { IfOk result (λ _. weigh pending.new ≤ weigh pending.old + room work.entry) }
 {
     match work {
@@ -63,7 +84,8 @@ pub(crate) fn lay_down<'a>(
             pending.push(Frame::Body(body))?;
             Ok(None)
         }
-        Work::Buffer(held, body) => {
+        Work::Buffer(block) => {
+            let Block { held, body } = block;
             pending.push(Frame::Leave(held))?;
             pending.push(Frame::Body(body))?;
             Ok(None)

@@ -226,6 +226,7 @@ fn loops_and_calls(rt: HostRuntime) -> Result<(), Fail> {
     let no_fuel = Given { fuel: 0, ..NOTHING };
     let one_call = Given { fuel: 1, ..NOTHING };
     let call = "(fn main () () (call () f)) (fn f () ())";
+    let missing = "(fn main () () (call () f)) (fn g () ())";
     let rows = [
         ("(fn main () () (while 1))", NOTHING, "outoffuel"),
         (
@@ -235,6 +236,13 @@ fn loops_and_calls(rt: HostRuntime) -> Result<(), Fail> {
         ),
         (call, no_fuel, "outoffuel"),
         (call, one_call, "done"),
+        (missing, no_fuel, "outoffuel"),
+        (missing, one_call, "undefined"),
+        (
+            "(fn f () (r) (call (r) g)) (fn g () (r) (set r 1)) (fn g () (r) (set r 2))",
+            NOTHING,
+            "done 00000001",
+        ),
         (
             "(fn main () (n s) (set n 3) (set s 0) (while n (call (s) add n s) (set n (sub n 1)))) (fn add (a b) (s) (set s (add a b)))",
             NOTHING,

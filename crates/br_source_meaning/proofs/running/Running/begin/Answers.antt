@@ -1,6 +1,7 @@
 use Rattle.std.proofs.Common.{◌≡◌, [], ◌∷◌, ◌++◌, sym, ap, ◌∙◌, arith}
 use Rattle.std.proofs.lemmas.Grind.{common_steps}
 use Rattle.br_source_meaning.specs.Runs.{Callee, State, Goes, run_all}
+use Rattle.br_source_meaning.specs.Numbered.{listed, named_commands}
 use Rattle.br_source_meaning.specs.Running.{state_of, deep_calls}
 use Rattle.br_source_meaning.specs.Pending.{finish, begins}
 use Rattle.br_source_meaning.specs.declared.pending.Frame.TheVariants as frame
@@ -11,8 +12,8 @@ pub returns-in_ok-push-in-Loop-2-clause-starts : goal.returns-in_ok-push-in-Loop
 returns-in_ok-push-in-Loop-2-clause-starts c =
     let call : Callee = deep_calls c.args.functions.now.funcs.now in
     let s : State = state_of c.args.self.now in
-    let mid : c.push.new.self ≡ c.args.pending.now ++ frame.Loop c.in-Loop.e c.in-Loop.body ∷ [] = grind (arith, common_steps) in
-    let new : c.push-in-Loop.new.self ≡ c.push.new.self ++ frame.Body c.in-Loop.body ∷ [] = grind (arith, common_steps) in
-    ap (λ t. finish call c.args.pending.now (begins call t s)) c.in-Loop.is
-    ∙ sym (pushed call c.push.new.self c.push-in-Loop.new.self (frame.Body c.in-Loop.body) (Goes s) new
-    ∙ pushed call c.args.pending.now c.push.new.self (frame.Loop c.in-Loop.e c.in-Loop.body) (run_all call c.in-Loop.body.now s) mid)
+    let mid : c.push.new.self ≡ c.args.pending.now ++ frame.Loop c.in-Loop.turn ∷ [] = grind (arith, common_steps) in
+    let new : c.push-in-Loop.new.self ≡ c.push.new.self ++ frame.Body (record { commands = c.in-Loop.turn.commands }) ∷ [] = grind (arith, common_steps) in
+    ap (λ t. finish (listed c.args.functions.now.program.now.names.set) call c.args.pending.now (begins (listed c.args.functions.now.program.now.names.set) call t s)) c.in-Loop.is
+    ∙ sym (pushed (listed c.args.functions.now.program.now.names.set) call c.push.new.self c.push-in-Loop.new.self (frame.Body (record { commands = c.in-Loop.turn.commands })) (Goes s) new
+    ∙ pushed (listed c.args.functions.now.program.now.names.set) call c.args.pending.now c.push.new.self (frame.Loop c.in-Loop.turn) (run_all call (named_commands (listed c.args.functions.now.program.now.names.set) c.in-Loop.turn.commands.now) s) mid)

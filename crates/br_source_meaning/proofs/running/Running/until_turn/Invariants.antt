@@ -1,14 +1,15 @@
 -- What was pending at first and what is pending now come to the same, and what is done has its weight.
-use Rattle.std.proofs.Common.{◌≡◌}
+use Rattle.std.proofs.Common.{◌≡◌, List}
 use Rattle.br_bytes.specs.Left.{OnlyTakes}
 use Rattle.br_source_meaning.specs.Runs.{Callee, Goes}
+use Rattle.br_source_meaning.specs.Values.{Name}
 use Rattle.br_source_meaning.specs.Running.{state_of}
 use Rattle.br_source_meaning.specs.Pending.{finish, weigh}
 use Rattle.br_source_meaning.proofs.running.Running.until_turn.Given as goal
 
 abbrev pub invariant-loop-frame : goal.invariant-loop-frame
 invariant-loop-frame l = record {
-  same : (call : Callee) → OnlyTakes call → finish call l.fn.pending (Goes (state_of l.fn.self)) ≡ finish call l.pending (Goes (state_of l.self));
+  same : (names : List Name) (call : Callee) → OnlyTakes call → finish names call l.fn.pending (Goes (state_of l.fn.self)) ≡ finish names call l.pending (Goes (state_of l.self));
   fuel : l.self.fuel ≡ l.fn.self.fuel;
 }
 
