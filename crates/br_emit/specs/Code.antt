@@ -2,6 +2,7 @@
 -- is used where a jump is far and for the address of a table. Code does not depend on where it stands.
 use Rattle.std.specs.Prelude.{not, filter, ℕ, zero, suc, ◌+◌, ◌-◌, ◌*◌, ◌/◌, ◌%◌, ◌^◌, ◌<◌, nat_lt, nat_le, ◌==◌, ◌&&◌, ◌||◌, if◌then◌else◌, Bool, ℤ, pos, negsuc, List, [], ◌∷◌, ◌++◌, length, map}
 use Rattle.std.specs.List.{flat_map, list_any}
+use Rattle.br_words.specs.Layout.{stack_end}
 use Rattle.br_words.specs.declared.operation.BinOp.{BinOp}
 use Rattle.br_words.specs.declared.operation.BinOp.TheVariants as op
 use Rattle.br_words.specs.declared.size.Size.{Size}
@@ -344,7 +345,7 @@ entry_items target = Does (Upper Lui 2 0x80300) ∷ (call_items target ++ Does E
 
 -- the stack pointer below the buffers
 abbrev pub stack_items : FlatFunc → List Item
-stack_items f = constant_items 2 (0x80300000 - nest f)
+stack_items f = constant_items 2 (stack_end - nest f)
 
 -- an entry whose function nobody calls is the function itself, and saves nothing
 abbrev pub direct_items : Targets → FlatFunc → List Item

@@ -6,6 +6,7 @@ ghost use Rattle.br_flatimp.specs.Parts.{throughout};
 ghost use Rattle.br_flatimp.specs.Sizes.{largest, statement_nest, nest};
 ghost use Rattle.br_flatimp.specs.Runs.{forgets_none};
 ghost use Rattle.br_rv32im.specs.declared.instruction.Ins.TheVariants.{Ecall};
+ghost use Rattle.br_words.specs.Layout.{stack_end};
 ghost use Rattle.br_emit.specs.Code.{AllFit, Does, all_items, constant_items, callable_items, direct_items};
 ghost use Rattle.br_emit.specs.Sizes.{sized_all, framed_items, callable_words, direct_words};
 ghost use Rattle.br_emit.specs.Buffer.{appended, noted};
@@ -172,9 +173,9 @@ fn ended(code: &mut Code, targets: &[u32], lengths: &[u32], body: &[Stmt], buffe
     requires few { buffers ≤ 1048576 }
     requires targets { (g : ℕ) → InReach (aimed targets.now g) }
     requires form { IsTrue (list_all (throughout is_encodable) body.now) }
-    requires ready { Ready (constant_items 2 (0x80300000 - buffers) ++ (all_items (aimed targets.now) body.now buffers ++ Does Ecall ∷ [])) (sized_all body.now buffers).parts code.old lengths.now }
-    ensures code { code.new ≡ appended code.old (constant_items 2 (0x80300000 - buffers) ++ (all_items (aimed targets.now) body.now buffers ++ Does Ecall ∷ [])) }
-    ensures fit { AllFit (constant_items 2 (0x80300000 - buffers) ++ (all_items (aimed targets.now) body.now buffers ++ Does Ecall ∷ [])) }
+    requires ready { Ready (constant_items 2 (stack_end - buffers) ++ (all_items (aimed targets.now) body.now buffers ++ Does Ecall ∷ [])) (sized_all body.now buffers).parts code.old lengths.now }
+    ensures code { code.new ≡ appended code.old (constant_items 2 (stack_end - buffers) ++ (all_items (aimed targets.now) body.now buffers ++ Does Ecall ∷ [])) }
+    ensures fit { AllFit (constant_items 2 (stack_end - buffers) ++ (all_items (aimed targets.now) body.now buffers ++ Does Ecall ∷ [])) }
 {
     constant(code, STACK_POINTER, STACK_END - buffers);
     write_all(code, targets, &mut Left::new(lengths), body, buffers);

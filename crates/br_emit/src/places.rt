@@ -10,9 +10,7 @@ use crate::functions::{callable_words, direct_words};
 use crate::numbers::Numbers;
 use crate::programs::is_flagged;
 use br_flatimp::FlatFunc;
-
-// The first address of the code region.
-const CODE_BASE: u32 = 0x8030_0000;
+use br_words::Layout;
 
 // The words of a function's entry where the function is called.
 const ENTRY_WORDS: u32 = 4;
@@ -37,7 +35,7 @@ fn place_function(
     ensures kept { lengths.new.room + length lengths.new.numbers ≡ lengths.old.room + length lengths.old.numbers }
 {
     lengths.clear();
-    targets.push(CODE_BASE + 4 * place);
+    targets.push(Layout::Two.code_base() + 4 * place);
     if called {
         let words = callable_words(lengths, f);
         offsets.push(4 * (place + words));
