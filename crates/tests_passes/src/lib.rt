@@ -6,6 +6,8 @@ mod compiling;
 #[cfg(test)]
 mod flat_programs;
 #[cfg(test)]
+mod immediates;
+#[cfg(test)]
 mod lightbulb;
 #[cfg(test)]
 mod spilling;
