@@ -61,7 +61,8 @@ callees-aside known (Stmt-F.Call xs g ys) = refl
 callees-aside known (Stmt-F.Read x y) = refl
 callees-aside known (Stmt-F.Write y z) = refl
 
-gathered-all : (cs : List Stmt) → flat_map (gathered own_callees) cs ≡ flat_map (λ xs. xs) (map (gathered own_callees) cs)
+gathered-all : (cs : List Stmt) → flat_map (gathered own_callees) cs ≡ flat_map (λ xs. xs)
+    (map (gathered own_callees) cs)
 gathered-all [] = refl
 gathered-all (c ∷ cs) = ap (λ ys. gathered own_callees c ++ ys) (gathered-all cs)
 
@@ -79,9 +80,11 @@ kept-function f = record {
   name = refl;
   args = refl;
   results = refl;
-  units = not_above (units (function_with_constants f)) (units f) (ap (λ ns. 8 + length f.args + length f.results + sum ns) (folds-stay units_step units-aside no_literals f.body));
+  units = not_above (units (function_with_constants f)) (units f)
+      (ap (λ ns. 8 + length f.args + length f.results + sum ns) (folds-stay units_step units-aside no_literals f.body));
   names = not_above f.names f.names refl;
-  nest = not_above (nest (function_with_constants f)) (nest f) (ap largest (folds-stay nest_step nest-aside no_literals f.body));
+  nest = not_above (nest (function_with_constants f)) (nest f)
+      (ap largest (folds-stay nest_step nest-aside no_literals f.body));
   callees = λ g h. subst (λ gs. Contains gs g) (callees-same f) h;
 }
 

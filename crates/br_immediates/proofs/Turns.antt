@@ -17,7 +17,8 @@ pub made-roll : (known : Literals) (x : Stmt-F Stmt) → (turn (roll-Stmt x)).ma
 made-roll known x = ap (λ t. t.made known) (turn-roll x)
 
 -- a fold of it is one step over the folds of its parts
-pub fold-made : {X : Type 0} (g : Stmt-F X → X) (known : Literals) (x : Stmt-F Stmt) → fold-Stmt X g ((turn (roll-Stmt x)).made known) ≡ g (map-Stmt Stmt X (fold-Stmt X g) (layer known x))
+pub fold-made : {X : Type 0} (g : Stmt-F X → X) (known : Literals) (x : Stmt-F Stmt)
+    → fold-Stmt X g ((turn (roll-Stmt x)).made known) ≡ g (map-Stmt Stmt X (fold-Stmt X g) (layer known x))
 fold-made {X} g known x = ap (fold-Stmt X g) (made-roll known x) ∙ fold-roll-Stmt X g (layer known x)
 
 -- ---- folds that do not look at operands
@@ -34,7 +35,8 @@ Each g = (c : Stmt) × Stays g c
 abbrev stmts : {X : Type 0} (g : Stmt-F X → X) → List (Each g) → List Stmt
 stmts g cs = map (λ e. e.0) cs
 
-all-stay : {X : Type 0} (g : Stmt-F X → X) (known : Literals) (cs : List (Each g)) → map (fold-Stmt X g) (made_all known (map turn (stmts g cs))) ≡ map (fold-Stmt X g) (stmts g cs)
+all-stay : {X : Type 0} (g : Stmt-F X → X) (known : Literals) (cs : List (Each g))
+    → map (fold-Stmt X g) (made_all known (map turn (stmts g cs))) ≡ map (fold-Stmt X g) (stmts g cs)
 all-stay g known [] = refl
 all-stay {X} g known (e ∷ cs) =
     let next : Literals = (turn e.0).after known in
@@ -44,31 +46,38 @@ all-stay {X} g known (e ∷ cs) =
 abbrev opened : {X : Type 0} (g : Stmt-F X → X) → Stmt-F (Each g) → Stmt-F Stmt
 opened g y = map-Stmt (Each g) Stmt (λ e. e.0) y
 
-step-stays : {X : Type 0} (g : Stmt-F X → X) → LooksAside g → (known : Literals) (y : Stmt-F (Each g)) → g (map-Stmt Stmt X (fold-Stmt X g) (layer known (opened g y))) ≡ g (map-Stmt Stmt X (fold-Stmt X g) (opened g y))
+step-stays : {X : Type 0} (g : Stmt-F X → X) → LooksAside g → (known : Literals) (y : Stmt-F (Each g))
+    → g (map-Stmt Stmt X (fold-Stmt X g) (layer known (opened g y))) ≡ g (map-Stmt Stmt X (fold-Stmt X g) (opened g y))
 step-stays g aside known (Stmt-F.Lit x n) = refl
 step-stays g aside known (Stmt-F.Copy x y) = refl
 step-stays g aside known (Stmt-F.Op x op y z) = aside known (Stmt-F.Op x op y z)
 step-stays g aside known (Stmt-F.Load x size y offset) = refl
 step-stays g aside known (Stmt-F.Store size y z offset) = refl
 step-stays g aside known (Stmt-F.Table x size bytes y) = refl
-step-stays g aside known (Stmt-F.Stackalloc x n body) = ap (λ l. g (Stmt-F.Stackalloc x n l)) (all-stay g no_literals body)
+step-stays g aside known (Stmt-F.Stackalloc x n body) =
+    ap (λ l. g (Stmt-F.Stackalloc x n l)) (all-stay g no_literals body)
 step-stays {X} g aside known (Stmt-F.If test first second) =
-    ap (λ l. g (Stmt-F.If test l (map (fold-Stmt X g) (made_all no_literals (map turn (stmts g second)))))) (all-stay g no_literals first)
+    ap (λ l. g (Stmt-F.If test l (map (fold-Stmt X g) (made_all no_literals (map turn (stmts g second))))))
+    (all-stay g no_literals first)
     ∙ ap (λ l. g (Stmt-F.If test (map (fold-Stmt X g) (stmts g first)) l)) (all-stay g no_literals second)
 step-stays {X} g aside known (Stmt-F.Loop first test last) =
-    ap (λ l. g (Stmt-F.Loop l test (map (fold-Stmt X g) (made_all no_literals (map turn (stmts g last)))))) (all-stay g no_literals first)
+    ap (λ l. g (Stmt-F.Loop l test (map (fold-Stmt X g) (made_all no_literals (map turn (stmts g last))))))
+    (all-stay g no_literals first)
     ∙ ap (λ l. g (Stmt-F.Loop (map (fold-Stmt X g) (stmts g first)) test l)) (all-stay g no_literals last)
 step-stays g aside known (Stmt-F.Call xs g2 ys) = refl
 step-stays g aside known (Stmt-F.Read x y) = refl
 step-stays g aside known (Stmt-F.Write y z) = refl
 
-pub fold-stays : {X : Type 0} (g : Stmt-F X → X) → LooksAside g → (c : Stmt) (known : Literals) → fold-Stmt X g ((turn c).made known) ≡ fold-Stmt X g c
+pub fold-stays : {X : Type 0} (g : Stmt-F X → X) → LooksAside g → (c : Stmt) (known : Literals)
+    → fold-Stmt X g ((turn c).made known) ≡ fold-Stmt X g c
 fold-stays {X} g aside = ind-Stmt (Stays g) (λ x y is known.
     fold-made g known x
-    ∙ subst (λ z. g (map-Stmt Stmt X (fold-Stmt X g) (layer known z)) ≡ g (map-Stmt Stmt X (fold-Stmt X g) z)) is (step-stays g aside known y)
+    ∙ subst (λ z. g (map-Stmt Stmt X (fold-Stmt X g) (layer known z)) ≡ g (map-Stmt Stmt X (fold-Stmt X g) z)) is
+    (step-stays g aside known y)
     ∙ sym (fold-roll-Stmt X g x))
 
-pub folds-stay : {X : Type 0} (g : Stmt-F X → X) → LooksAside g → (known : Literals) (cs : List Stmt) → map (fold-Stmt X g) (with_constants known cs) ≡ map (fold-Stmt X g) cs
+pub folds-stay : {X : Type 0} (g : Stmt-F X → X) → LooksAside g → (known : Literals) (cs : List Stmt)
+    → map (fold-Stmt X g) (with_constants known cs) ≡ map (fold-Stmt X g) cs
 folds-stay g aside known [] = refl
 folds-stay {X} g aside known (c ∷ cs) =
     let next : Literals = (turn c).after known in

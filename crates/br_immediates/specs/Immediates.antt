@@ -14,7 +14,7 @@ use Rattle.br_flatimp.specs.Parts.{written, throughout}
 use Rattle.br_flatimp.specs.Liveness.{is_in}
 use Rattle.br_flatimp.specs.Missed.{is_straight, literal, fits_literal}
 
--- the words that literals gave names, for those that still have them at a place in a list of statements
+-- the words that literals gave names, where they still have them at a place in a list
 abbrev pub Literals : Type 0
 Literals = ℕ → Option ℕ
 
@@ -32,10 +32,11 @@ literals_after y known x =
 
 -- ---- operands
 
--- a name, or in its place the word that a literal gave it, as a signed number that fits the operation
+-- a name, or in its place the word of a literal, where as a signed number it fits the operation
 abbrev pub operand_of : BinOp → ℕ → Option ℕ → Operand
 operand_of op y None = operand.Name y
-operand_of op y (Some n) = if fits_literal op (Some n) then operand.Const (signed n) else operand.Name y
+operand_of op y (Some n) =
+    if fits_literal op (Some n) then operand.Const (signed n) else operand.Name y
 
 abbrev pub with_constant : BinOp → Literals → Operand → Operand
 with_constant op known (operand.Name y) = operand_of op y (known y)
@@ -73,7 +74,7 @@ with_parts f (Stmt-F.Call xs g ys) = Stmt-F.Call xs g ys
 with_parts f (Stmt-F.Read x y) = Stmt-F.Read x y
 with_parts f (Stmt-F.Write y z) = Stmt-F.Write y z
 
--- what stands for a statement in a list, given what literals gave names before it, and what they gave after it
+-- what stands for a statement in a list, given the words of literals before it, and those after it
 pub record Turn : Type 0 where
   pub made : Literals → Stmt
   pub after : Literals → Literals

@@ -40,7 +40,8 @@ impl Literals {
     /// What literals give names after a statement.
     #[tactic(auto, using(crate::proofs::Codes::after))]
     pub(crate) fn pass(&mut self, s: &Stmt) -> Result<(), NoMemory>
-        ensures { OnOk result (literals_of self.new.words ≡ (turn s.now).after (literals_of self.old.words)) }
+        ensures { OnOk result
+            (literals_of self.new.words ≡ (turn s.now).after (literals_of self.old.words)) }
     {
         match s {
             Stmt::Lit(x, n) => self.set(*x, *n)?,
@@ -59,7 +60,8 @@ impl Literals {
     }
 
     fn set(&mut self, x: u32, n: u32) -> Result<(), NoMemory>
-        ensures { OnOk result (literals_of self.new.words ≡ with_literal x (Some n) (literals_of self.old.words)) }
+        ensures { OnOk result
+            (literals_of self.new.words ≡ with_literal x (Some n) (literals_of self.old.words)) }
     {
         self.words.insert(x, n)?;
         Ok(())

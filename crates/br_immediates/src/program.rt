@@ -18,10 +18,10 @@ use br_flatimp::{FlatFunc, FlatProgram};
 use sqlite_items::Items;
 use std::alloc::Global;
 
-/// A well formed program with constants as second operands of operations, in place of names that a
-/// literal set before in the same list, with straight statements between that do not write them, where
-/// the literal, as a signed number, fits the operation. No such name is left. What a program means,
-/// its sizes and its callees stay. Answers want of memory alone.
+/// A program with constants in place of names: where an operation's second operand is a name that a
+/// literal set before in the same list, the statements between are straight and do not write it, and
+/// the literal, as a signed number, fits the operation. No such name is left. The program means the
+/// same, and its sizes and callees stay. Answers want of memory alone.
 pub fn use_immediates(alloc: Global, p: FlatProgram) -> Result<FlatProgram, NoMemory>
     requires { IsWellFormed p.funcs }
     ensures program { IfOk result (λ q. q.funcs ≡ program_with_constants p.funcs) }

@@ -9,6 +9,7 @@ use Rattle.br_immediates.proofs.bodies.+statement.Given as goal
 
 abbrev pub invariant-statements-loop-s : goal.invariant-statements-loop-s
 invariant-statements-loop-s l = record {
-  code : l.made ++ with_constants (literals_of l.known.words) (drop l.s-index l.body) ≡ with_constants no_literals l.body;
+  code : l.made ++ with_constants (literals_of l.known.words) (drop l.s-index l.body) ≡ with_constants no_literals
+      l.body;
   words : list_all (throughout literal_fits) l.body ≡ list_all (throughout literal_fits) (drop l.s-index l.body);
 }

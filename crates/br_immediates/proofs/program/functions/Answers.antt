@@ -7,17 +7,23 @@ use Rattle.br_immediates.proofs.program.functions.Goals as goal
 next : (fs : List FlatFunc) (i : ℕ) (f : FlatFunc) → i < length fs → f ≡ get_or fs i f → drop i fs ≡ f ∷ drop (i + 1) fs
 next fs i f inside is = rw (add-one, drop-cons fs i f, ← is) refl
 
-one-more : (fs made new : List FlatFunc) (i : ℕ) (f q : FlatFunc) → i < length fs → f ≡ get_or fs i f → q ≡ function_with_constants f → new ≡ made ++ q ∷ []
-    → made ++ program_with_constants (drop i fs) ≡ program_with_constants fs → new ++ program_with_constants (drop (i + 1) fs) ≡ program_with_constants fs
+one-more : (fs made new : List FlatFunc) (i : ℕ) (f q : FlatFunc) → i < length fs → f ≡ get_or fs i f
+    → q ≡ function_with_constants f → new ≡ made ++ q ∷ []
+    → made ++ program_with_constants (drop i fs) ≡ program_with_constants fs
+    → new ++ program_with_constants (drop (i + 1) fs) ≡ program_with_constants fs
 one-more fs made new i f q inside is same pushed before =
-    ap (λ zs. zs ++ program_with_constants (drop (i + 1) fs)) pushed ∙ append_assoc made (q ∷ []) (program_with_constants (drop (i + 1) fs))
+    ap (λ zs. zs ++ program_with_constants (drop (i + 1) fs)) pushed
+    ∙ append_assoc made (q ∷ []) (program_with_constants (drop (i + 1) fs))
     ∙ ap (λ r. made ++ r ∷ program_with_constants (drop (i + 1) fs)) same
     ∙ ap (λ zs. made ++ program_with_constants zs) (sym (next fs i f inside is)) ∙ before
 
-one-fits : (fs : List FlatFunc) (i : ℕ) (f : FlatFunc) → i < length fs → f ≡ get_or fs i f → function_literals_fit f ≡ true
-    → list_all function_literals_fit fs ≡ list_all function_literals_fit (drop i fs) → list_all function_literals_fit fs ≡ list_all function_literals_fit (drop (i + 1) fs)
+one-fits : (fs : List FlatFunc) (i : ℕ) (f : FlatFunc) → i < length fs → f ≡ get_or fs i f
+    → function_literals_fit f ≡ true
+    → list_all function_literals_fit fs ≡ list_all function_literals_fit (drop i fs)
+    → list_all function_literals_fit fs ≡ list_all function_literals_fit (drop (i + 1) fs)
 one-fits fs i f inside is words before =
-    before ∙ ap (list_all function_literals_fit) (next fs i f inside is) ∙ ap (λ b. b && list_all function_literals_fit (drop (i + 1) fs)) words
+    before ∙ ap (list_all function_literals_fit) (next fs i f inside is)
+    ∙ ap (λ b. b && list_all function_literals_fit (drop (i + 1) fs)) words
 
 pub loop-f-preserved : goal.loop-f-preserved
 loop-f-preserved c =
@@ -25,6 +31,7 @@ loop-f-preserved c =
     let i = c.loop-f.f-index in
     let f = c.f-item.result in
     record {
-      functions = one-more fs c.loop-f.made c.push.new.self i f c.in_ok-function.field-0 c.loop-f-test.true c.f-item.is c.in_ok-function.ensures.same c.in_ok-push.ensures.ok c.loop-f.invariant.functions;
+      functions = one-more fs c.loop-f.made c.push.new.self i f c.in_ok-function.field-0 c.loop-f-test.true c.f-item.is
+          c.in_ok-function.ensures.same c.in_ok-push.ensures.ok c.loop-f.invariant.functions;
       words = one-fits fs i f c.loop-f-test.true c.f-item.is c.in_ok-function.ensures.words c.loop-f.invariant.words;
     }

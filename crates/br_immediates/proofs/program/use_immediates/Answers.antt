@@ -11,12 +11,15 @@ pub returns : goal.returns
 returns c =
     let ps = c.args.p.funcs in
     let qs = c.in_ok-funcs.funcs in
-    let same : qs ≡ program_with_constants ps = c.in_ok-funcs.ensures.program ∙ ap program_with_constants c.as_slice.ensures in
-    let words : list_all function_literals_fit ps ≡ true = subst (λ fs. list_all function_literals_fit fs ≡ true) c.as_slice.ensures c.in_ok-funcs.ensures.words in
+    let same : qs ≡ program_with_constants ps =
+    c.in_ok-funcs.ensures.program ∙ ap program_with_constants c.as_slice.ensures in
+    let words : list_all function_literals_fit ps ≡ true =
+    subst (λ fs. list_all function_literals_fit fs ≡ true) c.as_slice.ensures c.in_ok-funcs.ensures.words in
     record {
       program = same;
       well_formed = subst IsWellFormed (sym same) (c.programs_with_constants_are_well_formed.ensures ps c.requires);
-      refines = subst (λ fs. Refines (meaning fs) (meaning ps)) (sym same) (c.programs_with_constants_refine.ensures ps words);
+      refines = subst (λ fs. Refines (meaning fs) (meaning ps)) (sym same)
+          (c.programs_with_constants_refine.ensures ps words);
       kept = subst (λ fs. Kept fs ps) (sym same) (c.programs_with_constants_keep_sizes.ensures ps);
       none_missed = ap (list_all has_no_missed) same ∙ c.programs_with_constants_miss_none.ensures ps;
     }
