@@ -1,3 +1,6 @@
 pub mod Sets
 pub mod BitSets
 pub mod Tables
+pub mod Summaries
+pub mod Own
+pub mod Turns

@@ -3,6 +3,7 @@
 ghost use Rattle.std.specs.Prelude.{◌≡◌, ◌≢◌, ℕ, ◌+◌, ◌/◌, ◌%◌, ◌*◌, ◌<◌, ◌≤◌, ◌∷◌, [], length, slice_index, IfOk, IsTrue, ◌↔◌, if◌then◌else◌};
 ghost use Rattle.std.specs.Int.{bit_at};
 ghost use Rattle.br_flatimp.specs.Liveness.{is_in, nothing, union, without};
+ghost use Rattle.br_flatimp.specs.WellFormed.{are_below};
 ghost use Rattle.br_live.specs.Sets.{Holds, common, difference};
 
 use crate::words::{Join, clear_bit, join_words, set_bit};
@@ -55,6 +56,28 @@ impl BitSet {
         ensures { result ≡ set_of self.now x }
     {
         (self.words[(x / 32) as usize] >> (x % 32)) & 1 == 1
+    }
+
+    /// Adds numbers.
+    pub(crate) fn insert_all(&mut self, xs: &[u32])
+        requires { IsTrue (are_below self.old.bound xs.now) }
+        ensures bound { self.new.bound ≡ self.old.bound }
+        ensures set { set_of self.new ≡ union (set_of self.old) (is_in xs.now) }
+    {
+        for x in xs {
+            self.insert(*x);
+        }
+    }
+
+    /// Takes numbers away.
+    pub(crate) fn remove_all(&mut self, xs: &[u32])
+        requires { IsTrue (are_below self.old.bound xs.now) }
+        ensures bound { self.new.bound ≡ self.old.bound }
+        ensures set { set_of self.new ≡ without (set_of self.old) xs.now }
+    {
+        for x in xs {
+            self.remove(*x);
+        }
     }
 
     /// Adds the members of another set below the same bound, and answers whether the set grew.

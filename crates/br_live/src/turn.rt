@@ -1,0 +1,13 @@
+// What a loop does in a turn.
+
+ghost use Rattle.std.specs.Prelude.{◌≡◌};
+
+use crate::summary::Summary;
+
+/// What the first part of a loop does, and what the last part and then the first part do.
+#[derive(Drop)]
+pub(crate) struct Turn {
+    pub(crate) opening: Summary,
+    pub(crate) again: Summary,
+    ghost same_bound: { opening.reads.bound ≡ again.reads.bound },
+}
