@@ -18,11 +18,11 @@ use br_base::NoMemory;
 use br_flatimp::{FlatFunc, Stmt};
 use std::alloc::Global;
 
-/// Which names are live after each statement of a function. What is live is the least that it may be.
-/// Each statement is looked at twice, however deep loops stand in one another: first for what it and
-/// those in its parts read and write, and then for what is live after it. So the time is that of a
-/// few passes over a set of the function's names for each statement. While it works it takes as much
-/// memory as four more sets for each loop.
+/// Which names are live after each statement of a function: the least that it may be. Each statement
+/// is looked at twice, however deep loops stand in one another: for what it and those in its parts
+/// read and write, and then for what is live after it. Each time takes a few steps for each 32 names
+/// of the function. While it works it takes as much memory as four more sets for each loop, and a
+/// few sets for each statement that others stand in, one in the other.
 pub fn live_after(alloc: Global, f: &FlatFunc) -> Result<LiveTable, NoMemory>
     requires { IsTrue (are_below f.now.names (function_names f.now)) }
     ensures { IfOk result (λ t. rows t ≡ rows_after f.now.names (function_moments f.now)) }
@@ -43,8 +43,8 @@ fn turn_around(sets: &mut Vec<BitSet>)
     sets.as_mut_slice().reverse();
 }
 
-// Adds the sets after statements in turn, which stand before those of the summary. The last turns are
-// those of the loops in them, and are taken.
+// Adds the sets after statements in turn, which stand before those of the summary. The last turns
+// are those of the loops in them, and are taken.
 #[cycle(after)]
 fn add_sets_of_all(
     alloc: Global,
@@ -54,13 +54,17 @@ fn add_sets_of_all(
     sets: &mut Vec<BitSet>,
 ) -> Result<(), NoMemory>
     requires names { IsTrue (are_below so_far.old.reads.bound (flat_map statement_names body.now)) }
-    requires turns { EndsWith (map turn_of turns.old.items) (all_turns so_far.old.reads.bound body.now) }
+    requires turns { EndsWith
+        (map turn_of turns.old.items) (all_turns so_far.old.reads.bound body.now) }
     ensures bound { OnOk result (so_far.new.reads.bound ≡ so_far.old.reads.bound) }
-    ensures live { OnOk result (handed so_far.new nothing ≡ before_all body.now (handed so_far.old nothing)) }
+    ensures live { OnOk result
+        (handed so_far.new nothing ≡ before_all body.now (handed so_far.old nothing)) }
     ensures turns { OnOk result ((rest : List LoopTurn) →
-        map turn_of turns.old.items ≡ rest ++ all_turns so_far.old.reads.bound body.now → map turn_of turns.new.items ≡ rest) }
+        map turn_of turns.old.items ≡ rest ++ all_turns so_far.old.reads.bound body.now →
+        map turn_of turns.new.items ≡ rest) }
     ensures sets { OnOk result (map row sets.new.items
-        ≡ map row sets.old.items ++ reverse (rows_after so_far.old.reads.bound (moments (map live body.now) (handed so_far.old nothing)))) }
+        ≡ map row sets.old.items ++ reverse (rows_after so_far.old.reads.bound
+        (moments (map live body.now) (handed so_far.old nothing)))) }
 {
     let mut k = body.len();
     while k > 0 {
@@ -79,13 +83,16 @@ fn add_sets_of(
     sets: &mut Vec<BitSet>,
 ) -> Result<(), NoMemory>
     requires names { IsTrue (are_below so_far.old.reads.bound (statement_names s.now)) }
-    requires turns { EndsWith (map turn_of turns.old.items) (turns_of so_far.old.reads.bound s.now) }
+    requires turns { EndsWith
+        (map turn_of turns.old.items) (turns_of so_far.old.reads.bound s.now) }
     ensures bound { OnOk result (so_far.new.reads.bound ≡ so_far.old.reads.bound) }
     ensures live { OnOk result (handed so_far.new nothing ≡ before s.now (handed so_far.old nothing)) }
     ensures turns { OnOk result ((rest : List LoopTurn) →
-        map turn_of turns.old.items ≡ rest ++ turns_of so_far.old.reads.bound s.now → map turn_of turns.new.items ≡ rest) }
+        map turn_of turns.old.items ≡ rest ++ turns_of so_far.old.reads.bound s.now →
+        map turn_of turns.new.items ≡ rest) }
     ensures sets { OnOk result (map row sets.new.items
-        ≡ map row sets.old.items ++ reverse (rows_after so_far.old.reads.bound ((live s.now).moments (handed so_far.old nothing)))) }
+        ≡ map row sets.old.items ++ reverse (rows_after so_far.old.reads.bound
+        ((live s.now).moments (handed so_far.old nothing)))) }
 {
     let after = so_far.reads.copy(alloc)?;
     match s {

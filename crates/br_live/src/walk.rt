@@ -27,7 +27,8 @@ pub(crate) fn summary_of_all(
     requires { IsTrue (are_below names (flat_map statement_names body.now)) }
     ensures bound { IfOk result (λ s. s.reads.bound ≡ names) }
     ensures hands { IfOk result (λ s. (after : Names) → handed s after ≡ before_all body.now after) }
-    ensures turns { OnOk result (map turn_of turns.new.items ≡ map turn_of turns.old.items ++ all_turns names body.now) }
+    ensures turns { OnOk result
+        (map turn_of turns.new.items ≡ map turn_of turns.old.items ++ all_turns names body.now) }
 {
     let mut so_far = Summary::new(alloc, names)?;
     for s in body {
@@ -48,7 +49,8 @@ fn summary_of(
     requires { IsTrue (are_below names (statement_names s.now)) }
     ensures bound { IfOk result (λ r. r.reads.bound ≡ names) }
     ensures hands { IfOk result (λ r. (after : Names) → handed r after ≡ before s.now after) }
-    ensures turns { OnOk result (map turn_of turns.new.items ≡ map turn_of turns.old.items ++ turns_of names s.now) }
+    ensures turns { OnOk result
+        (map turn_of turns.new.items ≡ map turn_of turns.old.items ++ turns_of names s.now) }
 {
     match s {
         Stmt::Stackalloc(_, _, body) => {
