@@ -14,9 +14,9 @@ use Rattle.br_spill.specs.Spill.{Layout, Fits, bring, at, keep, bring_operand, o
 use Rattle.br_spill.proofs.Form.{and-first, and-second, both, in_order-registers, in_order-passing, in_order-differ, in_order-length, registers-below, Fine, registers-fine, fits-fine, all, step, all-append, all-first, leaf, three-register, four-register, five-register, place-of, rest-of, at-register, bring-fine, keep-fine, copy-fine, operand-fine, operand-registers, operand-still_fits, test-fine, test-registers, passes-fine, takes-fine}
 
 -- calls that fit the functions fit those in register form
-record CallsFit (ps qs : List FlatFunc) : Type 0 where
-  few : (g n m : ℕ) → counts_fit (slice_get ps g) n m ≡ true → (n ≤ 8) × (m ≤ 8)
-  counts : (g n m : ℕ) → counts_fit (slice_get ps g) n m ≡ true → counts_fit (slice_get qs g) n m ≡ true
+pub record CallsFit (ps qs : List FlatFunc) : Type 0 where
+  pub few : (g n m : ℕ) → counts_fit (slice_get ps g) n m ≡ true → (n ≤ 8) × (m ≤ 8)
+  pub counts : (g n m : ℕ) → counts_fit (slice_get ps g) n m ≡ true → counts_fit (slice_get qs g) n m ≡ true
 
 abbrev StatementFine : List FlatFunc → ℕ → Layout → (Stmt-F Bool → Bool) → Stmt → Type 0
 StatementFine ps names l t s = is_well_formed_statement ps names s ≡ true → all t (spilled l s) ≡ true
@@ -46,13 +46,13 @@ one-part b c e f = rw (e, f) refl
 two-parts : (b c d : Bool) → b ≡ true → c ≡ true → d ≡ true → (b && (c && (d && true))) ≡ true
 two-parts b c d e f g = rw (e, f, g) refl
 
-record Layer (names : ℕ) (xs ys : List ℕ) (values inner : Bool) : Type 0 where
-  writes : are_below names xs ≡ true
-  reads : are_below names ys ≡ true
-  fit : values ≡ true
-  parts : inner ≡ true
+pub record Layer (names : ℕ) (xs ys : List ℕ) (values inner : Bool) : Type 0 where
+  pub writes : are_below names xs ≡ true
+  pub reads : are_below names ys ≡ true
+  pub fit : values ≡ true
+  pub parts : inner ≡ true
 
-layer-facts : (names : ℕ) (xs ys : List ℕ) (values inner : Bool) → ((are_below names xs && are_below names ys && values) && inner) ≡ true → Layer names xs ys values inner
+pub layer-facts : (names : ℕ) (xs ys : List ℕ) (values inner : Bool) → ((are_below names xs && are_below names ys && values) && inner) ≡ true → Layer names xs ys values inner
 layer-facts names xs ys values inner h = split (are_below names xs) (are_below names ys) h refl refl
   where
     split : (a b : Bool) → ((a && b && values) && inner) ≡ true → are_below names xs ≡ a → are_below names ys ≡ b → Layer names xs ys values inner
@@ -195,11 +195,11 @@ statements-fine ps qs names l fit calls t f (x ∷ xs) h =
 -- ---- functions
 
 -- what is known of a function that is well formed
-record Head (f : FlatFunc) : Type 0 where
-  args : are_below f.names f.args ≡ true
-  few_args : length f.args ≤ 8
-  results : are_below f.names f.results ≡ true
-  few_results : length f.results ≤ 8
+pub record Head (f : FlatFunc) : Type 0 where
+  pub args : are_below f.names f.args ≡ true
+  pub few_args : length f.args ≤ 8
+  pub results : are_below f.names f.results ≡ true
+  pub few_results : length f.results ≤ 8
 
 three-all : (a b c : Bool) → (a && b && c) ≡ true → (a ≡ true) × (b ≡ true) × (c ≡ true)
 three-all true true true h = (refl, refl, refl)
@@ -207,7 +207,7 @@ three-all true true false h = absurd (cc h)
 three-all true false c h = absurd (cc h)
 three-all false b c h = absurd (cc h)
 
-head-of : (f : FlatFunc) → is_well_formed_head f ≡ true → Head f
+pub head-of : (f : FlatFunc) → is_well_formed_head f ≡ true → Head f
 head-of f h =
     let whole = three-all (nat_le f.names 1048576) (is_list_of_names f.names f.args) (is_list_of_names f.names f.results) h in
     let args = three-all (nat_le (length f.args) 8) (are_below f.names f.args) (all_differ f.args) whole.1 in
@@ -283,7 +283,7 @@ counts-at (q ∷ qs) [] h g n m k = absurd h
 counts-at (q ∷ qs) (p ∷ ps) h zero n m k = ap (λ f. counts_fit (Some f) n m) h.0.2 ∙ same-counts h.0.0 p n m ∙ k
 counts-at (q ∷ qs) (p ∷ ps) h (suc g) n m k = counts-at qs ps h.1 g n m k
 
-few-at : (ps fs : List FlatFunc) → list_all (is_well_formed_function ps) fs ≡ true → (g n m : ℕ) → counts_fit (slice_get fs g) n m ≡ true → (n ≤ 8) × (m ≤ 8)
+pub few-at : (ps fs : List FlatFunc) → list_all (is_well_formed_function ps) fs ≡ true → (g n m : ℕ) → counts_fit (slice_get fs g) n m ≡ true → (n ≤ 8) × (m ≤ 8)
 few-at ps [] h g n m k = absurd (cc k)
 few-at ps (f ∷ fs) h zero n m k =
     let head = head-of f (and-first (is_well_formed_head f) (list_all (is_well_formed_statement ps f.names) f.body) (and-first (is_well_formed_function ps f) (list_all (is_well_formed_function ps) fs) h)) in

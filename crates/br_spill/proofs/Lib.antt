@@ -18,3 +18,7 @@ pub mod Parts
 pub mod InOrder
 pub mod Codes
 pub mod BytesFit
+pub mod Plain
+pub mod Missed
+pub mod Dead
+pub mod Lean

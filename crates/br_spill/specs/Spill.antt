@@ -18,6 +18,8 @@ use Rattle.br_flatimp.specs.declared.program.FlatFunc.{FlatFunc}
 use Rattle.br_spill.specs.declared.place.Place.{Place}
 use Rattle.br_spill.specs.declared.place.Place.TheVariants.{Register, Slot}
 use Rattle.br_flatimp.specs.Parts.{throughout}
+use Rattle.br_flatimp.specs.Liveness.{has_no_dead, has_no_dead_but_copies}
+use Rattle.br_flatimp.specs.Missed.{has_no_missed}
 use Rattle.br_flatimp.specs.Sizes.{added}
 
 -- ---- places
@@ -206,6 +208,23 @@ own_buffers (Stmt-F.Write y z) = 0
 -- how many Stackallocs stand in a function
 abbrev pub buffers : FlatFunc → ℕ
 buffers f = sum (map (added own_buffers) f.body)
+
+-- ---- operands and dead statements
+
+-- A function in register form beside the one that it comes from. Where it has no buffer it misses no operand if
+-- that one misses none, and has no dead statement but copies if that one has no dead one. One of at most 21
+-- names gets no buffer.
+pub record StaysLean (q p : FlatFunc) : Type 0 where
+  pub none_missed : buffers q ≡ 0 → IsTrue (has_no_missed p) → IsTrue (has_no_missed q)
+  pub none_dead : buffers q ≡ 0 → IsTrue (has_no_dead p) → IsTrue (has_no_dead_but_copies q)
+  pub few : p.names ≤ 21 → buffers q ≡ buffers p
+
+-- each function beside the one that it comes from
+abbrev pub StayLean : List FlatFunc → List FlatFunc → Type 0
+StayLean [] [] = Unit {0}
+StayLean (q ∷ qs) (p ∷ ps) = StaysLean q p × StayLean qs ps
+StayLean [] (p ∷ ps) = ⊥
+StayLean (q ∷ qs) [] = ⊥
 
 -- ---- numbers that are words
 

@@ -7,7 +7,7 @@ ghost use Rattle.br_flatimp.specs.Parts.{callees};
 ghost use Rattle.br_flatimp.specs.Sizes.{flat_bulk, function_bulk, nest, units};
 ghost use Rattle.br_flatimp.specs.WellFormed.{IsRegisterForm, IsWellFormed};
 ghost use Rattle.br_flatimp.specs.declared.program.FlatFunc.{FlatFunc};
-ghost use Rattle.br_spill.specs.Spill.{Fits, HasWords, Layout, SpilledFunctions, buffers, layout_of, spilled_function, spilled_program};
+ghost use Rattle.br_spill.specs.Spill.{Fits, HasWords, Layout, SpilledFunctions, StayLean, buffers, layout_of, spilled_function, spilled_program};
 
 use br_words::operations_answer_words;
 
@@ -41,4 +41,10 @@ pub fn layouts_fit()
     ensures fits { (names : ℕ) → names ≤ 1048576 → Fits names (layout_of names) }
     ensures few { (names : ℕ) → names ≤ 21 → (layout_of names).slots ≡ 0 }
     ensures program { (fs : List FlatFunc) → IsWellFormed fs → SpilledFunctions (spilled_program fs) fs }
+{}
+
+/// In a function without buffers no operand is missed and no statement but a copy is dead, where the
+/// one that it comes from misses none and has no dead one; up to 21 names get no buffer.
+pub fn spilled_programs_stay_lean()
+    ensures { (fs : List FlatFunc) → IsWellFormed fs → StayLean (spilled_program fs) fs }
 {}

@@ -12,7 +12,7 @@ mod spilling;
 
 pub use laws::{
     layouts_fit, spilled_functions_keep_sizes, spilled_programs_are_in_register_form,
-    spilled_programs_refine,
+    spilled_programs_refine, spilled_programs_stay_lean,
 };
 pub use place::Place;
 pub use spilling::spill;

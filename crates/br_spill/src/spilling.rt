@@ -3,10 +3,13 @@
 ghost use Rattle.std.specs.Prelude.{◌≡◌, ◌≤◌, true, IfOk, OnOk};
 ghost use Rattle.br_flatimp.specs.Refines.{Refines, meaning};
 ghost use Rattle.br_flatimp.specs.WellFormed.{IsRegisterForm, IsWellFormed};
-ghost use Rattle.br_spill.specs.Spill.{HasWords, function_words_fit, in_buffer, layout_of, spilled_function, spilled_program};
+ghost use Rattle.br_spill.specs.Spill.{HasWords, StayLean, function_words_fit, in_buffer, layout_of, spilled_function, spilled_program};
 
 use crate::bodies::statements;
-use crate::laws::{layouts_fit, spilled_programs_are_in_register_form, spilled_programs_refine};
+use crate::laws::{
+    layouts_fit, spilled_programs_are_in_register_form, spilled_programs_refine,
+    spilled_programs_stay_lean,
+};
 use crate::moves::BUFFER;
 use crate::passing::{passes, registers, takes};
 use crate::place::slots;
@@ -20,16 +23,19 @@ const REGISTERS: u32 = 32;
 
 /// The program in register form of a well formed flat program. A function of at most 21 names keeps
 /// them in registers; of more, the first 18 names have registers, and the others words of a buffer
-/// around its body. Answers want of memory alone.
+/// around its body. A function that has no buffer then misses no operand where it missed none, and has
+/// no dead statement but copies where it had no dead one. Answers want of memory alone.
 pub fn spill(alloc: Global, p: FlatProgram) -> Result<FlatProgram, NoMemory>
     requires { IsWellFormed p.funcs }
     ensures program { IfOk result (λ q. q.funcs ≡ spilled_program p.funcs) }
     ensures form { IfOk result (λ q. IsRegisterForm q.funcs) }
     ensures refines { IfOk result (λ q. Refines (meaning q.funcs) (meaning p.funcs)) }
+    ensures lean { IfOk result (λ q. StayLean q.funcs p.funcs) }
 {
     layouts_fit();
     spilled_programs_refine();
     spilled_programs_are_in_register_form();
+    spilled_programs_stay_lean();
     let funcs = functions(alloc, p.funcs.as_slice())?;
     Ok(FlatProgram { funcs })
 }

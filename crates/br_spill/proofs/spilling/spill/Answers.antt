@@ -1,5 +1,5 @@
 use Rattle.std.proofs.Common.{◌≡◌, sym, ap, subst, ◌∙◌}
-use Rattle.br_spill.specs.Spill.{HasWords, SpilledFunctions, spilled_program}
+use Rattle.br_spill.specs.Spill.{HasWords, SpilledFunctions, StayLean, spilled_program}
 use Rattle.br_spill.proofs.spilling.spill.Goals as goal
 
 pub returns : goal.returns
@@ -13,4 +13,5 @@ returns c =
       program = same;
       form = c.spilled_programs_are_in_register_form.ensures qs ps c.requires each;
       refines = c.spilled_programs_refine.ensures qs ps c.requires words each;
+      lean = subst (λ rs. StayLean rs ps) (sym same) (c.spilled_programs_stay_lean.ensures ps c.requires);
     }
