@@ -64,13 +64,14 @@ record Source (fs gs : List Func) (n : ℕ) (q : FlatFunc) : Type 0 where
   pub func : Func
   pub at : slice_get gs n ≡ Some func
   pub nest : nest q ≤ source_stack.nested_buffers func + 4 * source.function_bulk func
-  pub callees : callees q ≡ map (callee_number fs) (source_paths.callees func)
+  pub callees : (g : ℕ) → Contains (callees q) g → Contains (map (callee_number fs) (source_paths.callees func)) g
 
 one_source : Laws → (fs : List Func) (f : Func) (p q : FlatFunc) (l : Layout) → IsSized fs f p → Fits p.names l → q ≡ spilled_function l p
-    → (nest q ≤ source_stack.nested_buffers f + 4 * source.function_bulk f) × (callees q ≡ map (callee_number fs) (source_paths.callees f))
+    → (nest q ≤ source_stack.nested_buffers f + 4 * source.function_bulk f)
+    × ((g : ℕ) → Contains (callees q) g → Contains (map (callee_number fs) (source_paths.callees f)) g)
 one_source laws fs f p q l sized fits is = (
   omega (arith, ap nest is, laws.nest l p fits, sized.nest, sized.names),
-  ap callees is ∙ laws.callees l p ∙ sized.callees,
+  λ g called. sized.callees g (subst (λ gs. Contains gs g) (ap callees is ∙ laws.callees l p) called),
 )
 
 source_of : Laws → (fs gs : List Func) (ps qs : List FlatFunc) → AreSized fs gs ps → SpilledFunctions qs ps
@@ -101,6 +102,23 @@ same_largest : (ns : List ℕ) → largest ns ≡ source_stack.largest ns
 same_largest [] = refl
 same_largest (n ∷ ns) = ap (max n) (same_largest ns)
 
+-- a number of a list is within the largest
+one_within : (F : ℕ → ℕ) (ns : List ℕ) (n k : ℕ) → k < length ns → slice_index_or ns k n ≡ n → F n ≤ largest (map F ns)
+one_within F [] n k low is = absurd (omega arith)
+one_within F (m ∷ ns) n zero low is = omega (arith, ap F is)
+one_within F (m ∷ ns) n (suc k) low is = omega (arith, one_within F ns n k (omega arith) is)
+
+-- so is the largest of numbers that are all in the list
+largest_within : (F : ℕ → ℕ) (ms ns : List ℕ) → ((n : ℕ) → Contains ms n → Contains ns n) → largest (map F ms) ≤ largest (map F ns)
+largest_within F [] ns among = omega arith
+largest_within F (m ∷ ms) ns among =
+    let first = among m (0, omega arith, refl) in
+    omega (
+      arith,
+      one_within F ns m first.0 first.1 first.2,
+      largest_within F ms ns (λ n has. among n (suc has.0, omega (arith, has.1), has.2)),
+    )
+
 by_number : (fs : List Func) (xs : List (List ℕ)) → map (measure_at fs) (map (callee_number fs) xs) ≡ map (measure_named fs) xs
 by_number fs [] = refl
 by_number fs (x ∷ xs) =
@@ -118,11 +136,11 @@ module _ (laws : Laws) (fs : List Func) (ps qs : List FlatFunc) (sized : AreSize
     measures_bound n q at =
         let s = source_at n q at in
         let here : measure_at fs n ≡ source_stack.measure fs s.func = ap (λ o. unwrap_or (option_map (source_stack.measure fs) o) 0) s.at in
-        let called : largest (map (measure_at fs) (callees q)) ≡ source_stack.largest (map (measure_named fs) (source_paths.callees s.func)) =
-        ap (λ gs. largest (map (measure_at fs) gs)) s.callees
-        ∙ same_largest (map (measure_at fs) (map (callee_number fs) (source_paths.callees s.func)))
-        ∙ ap source_stack.largest (by_number fs (source_paths.callees s.func)) in
-        omega (arith, here, called, s.nest, laws.measures fs n s.func none s.at)
+        let all = map (callee_number fs) (source_paths.callees s.func) in
+        let called = largest_within (measure_at fs) (callees q) all s.callees in
+        let named : largest (map (measure_at fs) all) ≡ source_stack.largest (map (measure_named fs) (source_paths.callees s.func)) =
+        same_largest (map (measure_at fs) all) ∙ ap source_stack.largest (by_number fs (source_paths.callees s.func)) in
+        omega (arith, here, called, named, s.nest, laws.measures fs n s.func none s.at)
 
     pub needs_within : ((bound : ℕ → ℕ)
         → ((n : ℕ) (q : FlatFunc) → slice_get qs n ≡ Some q → 120 + nest q + largest (map bound (callees q)) ≤ bound n)
@@ -146,7 +164,7 @@ module _ (laws : Laws) (fs : List Func) (ps qs : List FlatFunc) (sized : AreSize
     call_of : (f g : ℕ) → g < length fs → Calls qs f g → source_paths.Calls fs f g
     call_of f g low c =
         let s = source_at f c.caller c.at in
-        let called = subst (λ gs. Contains gs g) s.callees c.called in
+        let called = s.callees g c.called in
         let named = of_map (source_paths.callees s.func) g called.0 called.1 called.2 in
         record {
           caller = s.func;

@@ -1,6 +1,6 @@
 -- The flat program of a sound program is well formed and within the sizes of its source.
 use Rattle.std.proofs.Common.{◌≡◌, ℕ, ◌+◌, ◌<◌, ◌≤◌, ◌&&◌, max, Bool, true, List, [], ◌∷◌, ◌++◌, map, length, refl, sym, ap, subst, ◌∙◌, arith, nat_le, nat_lt}
-use Rattle.std.specs.List.{flat_map, list_all}
+use Rattle.std.specs.List.{flat_map, list_all, Contains}
 use Rattle.std.proofs.lemmas.Bool.Decides.{nat_tests}
 use Rattle.std.proofs.lemmas.List.{length-map}
 use Rattle.std.proofs.lemmas.List.Sums.{sum-map, sum_by-cons}
@@ -243,7 +243,7 @@ functions-sized : (fs gs : List Func) → joins (map (body_faults fs) gs) ≡ []
 functions-sized fs [] none shaped = tt
 functions-sized fs (g ∷ gs) none shaped =
     let s = sized-at fs (g ∷ gs) g (first-member fs g gs none shaped) in (
-      record { units = s.units; names = s.names; nest = s.nest; callees = s.callees },
+      record { units = s.units; names = s.names; nest = s.nest; callees = λ n. subst (λ ns. Contains ns n) s.callees },
       functions-sized fs gs (none-second (body_faults fs g) (joins (map (body_faults fs) gs)) none) (and-second (is_shaped_function g) (list_all is_shaped_function gs) shaped),
     )
 

@@ -24,8 +24,8 @@ use std::alloc::Global;
 
 /// The flat program of a program of the source language. The variables of a function are numbered in
 /// the order of their first place in the text, and the temporaries come after them. The units and the
-/// names of a function are within its bulk, its buffers within its nested buffers, and it calls what
-/// its source calls, in the same order. Answers want of memory alone.
+/// names of a function are within its bulk, its buffers within its nested buffers, and it calls no
+/// function that its source does not call. Answers want of memory alone.
 pub fn flatten(alloc: Global, p: &Checked) -> Result<FlatProgram, NoMemory>
     ensures program { IfOk result (λ q. q.funcs ≡ flat_program first_places p.now) }
     ensures refines { IfOk result (λ q. Refines (meaning q.funcs) (source_meaning p.now)) }
