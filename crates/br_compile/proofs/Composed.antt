@@ -4,15 +4,13 @@ use Rattle.std.specs.Prelude.{unwrap_or}
 use Rattle.std.specs.Option.{option_map}
 use Rattle.std.proofs.lemmas.Option.{slice_get-map}
 use Rattle.std.proofs.Math.Nat.{mul-le-mul_left, mul_assoc}
-use Rattle.br_words.specs.declared.layout.Layout.{Layout}
 use Rattle.br_words.specs.declared.layout.Layout.TheVariants.{Two}
-use Rattle.br_words.specs.Layout.{data_base, stack_base}
 use Rattle.br_bytes.specs.declared.run.Event.{Event}
 use Rattle.br_bytes.specs.declared.run.Choice.{Choice}
 use Rattle.br_bytes.specs.declared.run.Outcome.{Outcome}
 use Rattle.br_bytes.specs.declared.run.Outcome.TheVariants as outcome
 use Rattle.br_bytes.specs.Memory.{Memory}
-use Rattle.br_bytes.specs.Buffers.{AreWords, AreChoices}
+use Rattle.br_bytes.specs.Buffers.{AreWords}
 use Rattle.br_bytes.specs.Called.{Called}
 use Rattle.br_syntax.specs.declared.program.Func.{Func}
 use Rattle.br_measure.specs.Bulk.{bulk}
@@ -30,7 +28,7 @@ use Rattle.br_machine.specs.Start.{Leftover, IsLeftover, IsInData, start}
 use Rattle.br_emit.specs.Reaches.{Reaches, ShowsEnd}
 use Rattle.br_emit.specs.Emitted as emitted
 use Rattle.br_emit.specs.Emitted.{ShowsProgram}
-use Rattle.br_compile.specs.Implements.{rate, Follows, Describes, AllDescribed, Implements}
+use Rattle.br_compile.specs.Implements.{rate, Follows, AllDescribed, Implements}
 
 -- a call that the machine shows had its choices
 has_choices : (s : MachineState) (answers : List ℕ) (o : Outcome) (trace : List Event) (m : Memory) (fuel need bound : ℕ)

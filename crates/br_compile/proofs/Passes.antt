@@ -1,8 +1,8 @@
 -- What the passes make of a program of the source, by their contracts.
-use Rattle.std.proofs.Common.{◌≡◌, ℕ, zero, suc, ◌+◌, ◌*◌, ◌<◌, ◌≤◌, List, [], ◌∷◌, map, length, Some, refl, sym, ap, subst, ◌∙◌, slice_get, get_or, min, sum, arith}
+use Rattle.std.proofs.Common.{◌≡◌, ℕ, ◌+◌, ◌*◌, ◌<◌, ◌≤◌, Bool, true, false, ◌&&◌, List, [], ◌∷◌, map, length, Some, refl, sym, ap, subst, ◌∙◌, slice_get, get_or, min, sum, arith}
 use Rattle.std.specs.Prelude.{All, unwrap_or}
 use Rattle.std.specs.Option.{option_map}
-use Rattle.std.specs.List.{fold}
+use Rattle.std.specs.List.{AllByRecursion, fold, list_all}
 use Rattle.std.proofs.lemmas.Option.{slice_get-get_or, slice_get-map, unwrap_or-slice_get}
 use Rattle.std.proofs.lemmas.List.{length-map}
 use Rattle.std.proofs.lemmas.List.Elements.{All-map}
@@ -13,23 +13,31 @@ use Rattle.br_measure.specs.Bulk as source
 use Rattle.br_measure.specs.Measure.{measure}
 use Rattle.br_measure.specs.Faults.{IsSound}
 use Rattle.br_flatimp.specs.declared.program.FlatFunc.{FlatFunc}
+use Rattle.br_flatimp.specs.Missed.{has_no_missed}
 use Rattle.br_flatimp.specs.Parts.{callees}
 use Rattle.br_flatimp.specs.Refines.{Meaning, Refines, meaning, signature}
-use Rattle.br_flatimp.specs.Sizes.{HasNoRecursion, units, largest, need, needs, own_need, nest, flat_bulk}
-use Rattle.br_flatimp.specs.WellFormed.{IsRegisterForm}
+use Rattle.br_flatimp.specs.Sizes.{HasNoRecursion, KeptFunction, Kept, units, largest, need, needs, own_need, nest, flat_bulk}
+use Rattle.br_flatimp.specs.WellFormed.{IsRegisterForm, IsWellFormed}
 use Rattle.br_flatten.specs.Meaning.{source_meaning, source_signature}
-use Rattle.br_flatten.specs.Sized.{AreSized}
-use Rattle.br_spill.specs.Spill.{SpilledFunctions}
+use Rattle.br_flatten.specs.Sized.{IsSized, AreSized}
+use Rattle.br_spill.specs.Spill.{SpilledFunctions, StayLean}
 use Rattle.br_emit.specs.Emitted.{AreNeeds}
-use Rattle.br_compile.specs.Implements.{rate}
-use Rattle.br_compile.specs.Lowered.{IsInRegisters}
+use Rattle.br_compile.specs.Lowered.{IsFlat, IsInRegisters, IsLean}
 use Rattle.br_compile.proofs.Needing.{Laws, needs_within, no_recursion}
+
+and-first : (a b : Bool) → (a && b) ≡ true → a ≡ true
+and-first true b e = refl
+and-first false b e = absurd (cc e)
+
+and-second : (a b : Bool) → (a && b) ≡ true → b ≡ true
+and-second true b e = e
+and-second false b e = absurd (cc e)
 
 fold_from : (a : ℕ) (xs : List ℕ) → fold ◌+◌ a xs ≡ a + sum xs
 fold_from a [] = omega arith
 fold_from a (x ∷ xs) = fold_from (a + x) xs ∙ (let e = fold_from (0 + x) xs in omega (arith, e))
 
-sum_cons : (x : ℕ) (xs : List ℕ) → sum (x ∷ xs) ≡ x + sum xs
+pub sum_cons : (x : ℕ) (xs : List ℕ) → sum (x ∷ xs) ≡ x + sum xs
 sum_cons x xs = fold_from (0 + x) xs ∙ omega arith
 
 -- the units of flat functions are within the bulk of the source
@@ -40,6 +48,38 @@ units_within fs (f ∷ gs) [] sized = absurd sized
 units_within fs (f ∷ gs) (p ∷ ps) sized =
     omega (arith, sized.0.units, units_within fs gs ps sized.1, sum_cons (units p) (map units ps), sum_cons (source.function_bulk f) (map source.function_bulk gs))
 
+-- ---- passes between flattening and register form
+
+-- that refinements compose, as br_flatimp says
+abbrev pub Composes : Type 0
+Composes = (r q p : Meaning) → Refines r q → Refines q p → Refines r p
+
+kept_function : (fs : List Func) (f : Func) (q p : FlatFunc) → IsSized fs f p → KeptFunction q p → IsSized fs f q
+kept_function fs f q p sized kept = record {
+  units = omega (arith, kept.units, sized.units);
+  names = omega (arith, kept.names, sized.names);
+  nest = omega (arith, kept.nest, sized.nest);
+  callees = λ g calls. sized.callees g (kept.callees g calls);
+}
+
+kept_functions : (fs gs : List Func) (qs ps : List FlatFunc) → AreSized fs gs ps → Kept qs ps → AreSized fs gs qs
+kept_functions fs [] [] [] sized kept = tt
+kept_functions fs [] (q ∷ qs) [] sized kept = absurd kept
+kept_functions fs [] qs (p ∷ ps) sized kept = absurd sized
+kept_functions fs (f ∷ gs) qs [] sized kept = absurd sized
+kept_functions fs (f ∷ gs) [] (p ∷ ps) sized kept = absurd kept
+kept_functions fs (f ∷ gs) (q ∷ qs) (p ∷ ps) sized kept =
+    (kept_function fs f q p sized.0 kept.0, kept_functions fs gs qs ps sized.1 kept.1)
+
+-- what a pass makes of flat functions is flat functions of the same program, where it keeps them
+pub after_pass : Composes → (fs : List Func) (qs ps : List FlatFunc) → IsFlat ps fs
+    → IsWellFormed qs → Refines (meaning qs) (meaning ps) → Kept qs ps → IsFlat qs fs
+after_pass composes fs qs ps flat formed refines kept = record {
+  well_formed = formed;
+  refines = composes (meaning qs) (meaning ps) (source_meaning fs) refines flat.refines;
+  sizes = kept_functions fs fs qs ps flat.sizes kept;
+}
+
 -- what the crates below say of programs
 pub record Passes : Type 0 where
   pub sizes : Laws
@@ -47,19 +87,31 @@ pub record Passes : Type 0 where
   pub bounded : (fs : List FlatFunc) (bound : ℕ → ℕ) → IsRegisterForm fs
       → ((f : ℕ) (caller : FlatFunc) → slice_get fs f ≡ Some caller → 120 + nest caller + largest (map bound (callees caller)) ≤ bound f)
       → (f : ℕ) (caller : FlatFunc) → slice_get fs f ≡ Some caller → need fs caller ≤ bound f
-  pub composes : (r q p : Meaning) → Refines r q → Refines q p → Refines r p
+  pub composes : Composes
 
-pub in_registers : Passes → (fs : List Func) (ps qs : List FlatFunc) → IsSound fs
-    → AreSized fs fs ps → Refines (meaning ps) (source_meaning fs)
+pub in_registers : Passes → (fs : List Func) (ps qs : List FlatFunc) → IsSound fs → IsFlat ps fs
     → SpilledFunctions qs ps → Refines (meaning qs) (meaning ps) → IsRegisterForm qs
     → IsInRegisters qs fs
-in_registers passes fs ps qs sound sized flat spilled kept form = record {
+in_registers passes fs ps qs sound flat spilled kept form = record {
   register_form = form;
-  refines = passes.composes (meaning qs) (meaning ps) (source_meaning fs) kept flat;
-  no_recursion = no_recursion passes.sizes fs ps qs sized spilled sound.no_recursion;
-  within = needs_within passes.sizes fs ps qs sized spilled sound.no_recursion (λ bound. passes.bounded qs bound form);
-  short = omega (arith, passes.bulk qs ps spilled, units_within fs fs ps sized);
+  refines = passes.composes (meaning qs) (meaning ps) (source_meaning fs) kept flat.refines;
+  no_recursion = no_recursion passes.sizes fs ps qs flat.sizes spilled sound.no_recursion;
+  within = needs_within passes.sizes fs ps qs flat.sizes spilled sound.no_recursion (λ bound. passes.bounded qs bound form);
+  short = omega (arith, passes.bulk qs ps spilled, units_within fs fs ps flat.sizes);
 }
+
+-- ---- functions without buffers
+
+pub lean : (qs ps : List FlatFunc) → StayLean qs ps → list_all has_no_missed ps ≡ true → AllByRecursion IsLean qs
+lean [] [] stay missed = tt
+lean [] (p ∷ ps) stay missed = absurd stay
+lean (q ∷ qs) [] stay missed = absurd stay
+lean (q ∷ qs) (p ∷ ps) stay missed = (
+  record {
+    none_missed = λ none. stay.0.none_missed none (and-first (has_no_missed p) (list_all has_no_missed ps) missed);
+  },
+  lean qs ps stay.1 (and-second (has_no_missed p) (list_all has_no_missed ps) missed),
+)
 
 -- ---- what emission asks for
 

@@ -1,14 +1,25 @@
 -- What the passes between a source text and its image make of a program.
-use Rattle.std.specs.Prelude.{◌≡◌, ℕ, ◌*◌, ◌≤◌, List, Some, slice_get}
+use Rattle.std.specs.Prelude.{◌≡◌, ℕ, ◌*◌, ◌≤◌, List, IsTrue, Some, slice_get}
+use Rattle.std.specs.List.{AllByRecursion}
 use Rattle.br_syntax.specs.declared.program.Func.{Func}
 use Rattle.br_measure.specs.Bulk.{bulk}
 use Rattle.br_measure.specs.Measure.{measure}
 use Rattle.br_flatimp.specs.declared.program.FlatFunc.{FlatFunc}
+use Rattle.br_flatimp.specs.Missed.{has_no_missed}
 use Rattle.br_flatimp.specs.Refines.{Refines, meaning}
 use Rattle.br_flatimp.specs.Sizes as sizes
-use Rattle.br_flatimp.specs.WellFormed.{IsRegisterForm}
+use Rattle.br_flatimp.specs.WellFormed.{IsRegisterForm, IsWellFormed}
 use Rattle.br_flatten.specs.Meaning.{source_meaning}
+use Rattle.br_flatten.specs.Sized.{AreSized}
+use Rattle.br_spill.specs.Spill.{buffers}
 use Rattle.br_compile.specs.Implements.{rate}
+
+-- Flat functions between flattening and register form: they are well formed, refine a program, and are no
+-- larger than its functions allow.
+pub record IsFlat (flat : List FlatFunc) (fs : List Func) : Type 0 where
+  pub well_formed : IsWellFormed flat
+  pub refines : Refines (meaning flat) (source_meaning fs)
+  pub sizes : AreSized fs fs flat
 
 -- Flat functions stand for a program: they are in register form and refine it, no path of calls leads from
 -- one to itself, each needs at most the measure of its source, and their flat bulk is at most 24 words for
@@ -21,8 +32,13 @@ pub record IsInRegisters (flat : List FlatFunc) (fs : List Func) : Type 0 where
       → sizes.need flat q ≤ measure fs f
   pub short : sizes.flat_bulk flat ≤ rate * bulk fs
 
+-- no operand of a function without buffers is missed
+pub record IsLean (q : FlatFunc) : Type 0 where
+  pub none_missed : buffers q ≡ 0 → IsTrue (has_no_missed q)
+
 -- They do, and with them stand the bytes of stack that each needs and the bulk of the program.
 pub record IsLowered (flat : List FlatFunc) (stack : List ℕ) (counted : ℕ) (fs : List Func) : Type 0 where
   pub in_registers : IsInRegisters flat fs
+  pub lean : AllByRecursion IsLean flat
   pub needs : stack ≡ sizes.needs flat
   pub size : counted ≡ bulk fs

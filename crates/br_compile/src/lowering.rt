@@ -1,19 +1,22 @@
 // From a source text to a flat program in register form.
 
-ghost use Rattle.std.specs.Prelude.{◌≡◌, ◌≤◌, List, length, IfOk, IfErr};
+ghost use Rattle.std.specs.Prelude.{◌≡◌, ◌≤◌, List, length, IfOk, IfErr, IsTrue};
+ghost use Rattle.std.specs.List.{AllByRecursion, list_all};
 ghost use Rattle.br_base.specs.Faults.{IfFault};
 ghost use Rattle.br_sexpr.specs.Reads.{Reads};
 ghost use Rattle.br_syntax.specs.Denotes.{Denotes};
 ghost use Rattle.br_syntax.specs.declared.program.Func.{Func};
 ghost use Rattle.br_measure.specs.Faults.{IsSound};
+ghost use Rattle.br_flatimp.specs.Missed.{has_no_missed};
 ghost use Rattle.br_compile.specs.declared.refusal.Refusal.{Refusal};
 ghost use Rattle.br_compile.specs.Refusal.{most_bytes, Accepts, IsFaultOf, IsShapeRefusal, IsNameRefusal};
-ghost use Rattle.br_compile.specs.Lowered.{IsInRegisters, IsLowered};
+ghost use Rattle.br_compile.specs.Lowered.{IsFlat, IsInRegisters, IsLean, IsLowered};
 
 use crate::refusal::Refusal;
 use br_base::{NoMemory, OrMemory};
 use br_flatimp::{FlatProgram, refines_composes};
 use br_flatten::flatten;
+use br_immediates::use_immediates;
 use br_measure::{Checked, check, measures_add_up, sound_programs_have_no_fault};
 use br_sexpr::{Tree, one_answer, read};
 use br_spill::{layouts_fit, spill, spilled_functions_keep_sizes};
@@ -38,7 +41,8 @@ pub struct Lowered {
 
 /// The flat program in register form of the program that a source text stands for. It refines that
 /// program and has its functions in order, each needs at most the measure of its source, and its flat
-/// bulk is at most 24 words for each unit of the program's bulk.
+/// bulk is at most 24 words for each unit of the program's bulk. In a function without buffers no
+/// operand is a name that could be a constant.
 ///
 /// An `Err` that is no want of memory is the first thing that refuses the text.
 pub fn lower(alloc: Global, text: &[u8]) -> Result<Lowered, OrMemory<Refusal>>
@@ -74,6 +78,7 @@ fn lowered_program(alloc: Global, program: &Checked) -> Result<Lowered, NoMemory
 
 fn in_registers(alloc: Global, program: &Checked) -> Result<FlatProgram, NoMemory>
     ensures lowered { IfOk result (λ q. IsInRegisters q.funcs program.now) }
+    ensures lean { IfOk result (λ q. AllByRecursion IsLean q.funcs) }
 {
     measures_add_up();
     needs_are_bounded();
@@ -81,9 +86,20 @@ fn in_registers(alloc: Global, program: &Checked) -> Result<FlatProgram, NoMemor
     spilled_functions_keep_sizes();
     refines_composes();
     let _source = program.program();
-    let flat = flatten(alloc, program)?;
+    let flat = flat_program(alloc, program)?;
     let spilled = spill(alloc, flat)?;
     Ok(spilled)
+}
+
+// The passes between flattening and register form.
+fn flat_program(alloc: Global, program: &Checked) -> Result<FlatProgram, NoMemory>
+    ensures flat { IfOk result (λ q. IsFlat q.funcs program.now) }
+    ensures none_missed { IfOk result (λ q. IsTrue (list_all has_no_missed q.funcs)) }
+{
+    refines_composes();
+    let first = flatten(alloc, program)?;
+    let constants = use_immediates(alloc, first)?;
+    Ok(constants)
 }
 
 fn trees_of(alloc: Global, text: &[u8]) -> Result<Items<Tree>, OrMemory<Refusal>>

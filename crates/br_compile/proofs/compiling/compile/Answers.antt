@@ -1,6 +1,5 @@
-use Rattle.std.proofs.Common.{◌≡◌, ◌≤◌, sym, subst, ◌∙◌}
+use Rattle.std.proofs.Common.{◌≤◌, sym, subst, ◌∙◌}
 use Rattle.std.specs.Prelude.{All}
-use Rattle.br_flatimp.specs.Sizes.{needs}
 use Rattle.br_compile.specs.FirstSteps.{ImplementsAtFirst}
 use Rattle.br_compile.proofs.Composed.{implements_refined}
 use Rattle.br_compile.proofs.Fronts.{implements_at_first}

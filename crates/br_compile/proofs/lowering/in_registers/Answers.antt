@@ -1,7 +1,7 @@
 use Rattle.std.proofs.Common.{sym, subst}
 use Rattle.br_spill.specs.Spill.{SpilledFunctions}
 use Rattle.br_compile.proofs.Needing.{Laws}
-use Rattle.br_compile.proofs.Passes.{Passes, in_registers}
+use Rattle.br_compile.proofs.Passes.{Passes, in_registers, lean}
 use Rattle.br_compile.proofs.lowering.in_registers.Goals as goal
 
 pub returns : goal.returns
@@ -21,8 +21,9 @@ returns c =
     let spilled = c.in_ok-spilled in
     let ps = flat.flat.funcs in
     let qs = spilled.spilled.funcs in
-    let each : SpilledFunctions qs ps = subst (λ rs. SpilledFunctions rs ps) (sym spilled.ensures.program) (c.layouts_fit.ensures.program ps flat.ensures.well_formed) in
+    let each : SpilledFunctions qs ps = subst (λ rs. SpilledFunctions rs ps) (sym spilled.ensures.program) (c.layouts_fit.ensures.program ps flat.ensures.flat.well_formed) in
     record {
       lowered = in_registers passes c.args.program.now ps qs c.program-source.ensures.sound
-          flat.ensures.sizes flat.ensures.refines each spilled.ensures.refines spilled.ensures.form;
+          flat.ensures.flat each spilled.ensures.refines spilled.ensures.form;
+      lean = lean qs ps spilled.ensures.lean flat.ensures.none_missed;
     }

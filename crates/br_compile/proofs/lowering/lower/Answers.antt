@@ -1,8 +1,8 @@
-use Rattle.std.proofs.Common.{◌≡◌, ◌≤◌, length, subst, arith}
+use Rattle.std.proofs.Common.{◌≤◌, length, subst, arith}
 use Rattle.br_syntax.specs.Denotes.{Denotes}
 use Rattle.br_measure.specs.Faults.{IsSound}
 use Rattle.br_compile.specs.Lowered.{IsLowered}
-use Rattle.br_compile.specs.Refusal.{most_bytes, Accepts}
+use Rattle.br_compile.specs.Refusal.{most_bytes}
 use Rattle.br_compile.proofs.Unrefused.{Laws, accepted_has_no_fault}
 use Rattle.br_compile.proofs.lowering.lower.Goals as goal
 
