@@ -3,6 +3,7 @@
 
 mod after;
 mod bit_set;
+mod laws;
 mod summary;
 mod table;
 mod turn;
@@ -11,7 +12,11 @@ mod words;
 
 pub use after::live_after;
 pub use bit_set::BitSet;
+pub use laws::names_are_below;
+pub use summary::Summary;
 pub use table::LiveTable;
+pub use turn::Turn;
+pub use walk::summary_of_all;
 
 #[cfg(test)]
 mod tests;

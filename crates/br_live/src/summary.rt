@@ -15,9 +15,9 @@ use std::alloc::Global;
 /// The names that statements may read before they write them, and the names that they surely write.
 /// It is made from the last statement to the first.
 #[derive(Drop)]
-pub(crate) struct Summary {
-    pub(crate) reads: BitSet,
-    pub(crate) writes: BitSet,
+pub struct Summary {
+    pub reads: BitSet,
+    pub writes: BitSet,
     ghost same_bound: { reads.bound ≡ writes.bound },
 }
 
@@ -26,7 +26,7 @@ impl Summary {
     ghost use Rattle.br_live.specs.Summaries.{handed};
 
     /// That of no statements, with so many names.
-    pub(crate) fn new(alloc: Global, names: u32) -> Result<Summary, NoMemory>
+    pub fn new(alloc: Global, names: u32) -> Result<Summary, NoMemory>
         ensures bound { IfOk result (λ s. s.reads.bound ≡ names) }
         ensures hands { IfOk result (λ s. (after : Names) → handed s after ≡ after) }
     {
@@ -36,7 +36,7 @@ impl Summary {
     }
 
     /// The same once more.
-    pub(crate) fn copy(&self, alloc: Global) -> Result<Summary, NoMemory>
+    pub fn copy(&self, alloc: Global) -> Result<Summary, NoMemory>
         ensures bound { IfOk result (λ s. s.reads.bound ≡ self.now.reads.bound) }
         ensures hands { IfOk result (λ s. (after : Names) → handed s after ≡ handed self.now after) }
     {
@@ -46,7 +46,7 @@ impl Summary {
     }
 
     /// Puts the names that a statement writes and reads itself before the statements.
-    pub(crate) fn own(&mut self, writes: &[u32], reads: &[u32])
+    pub fn own(&mut self, writes: &[u32], reads: &[u32])
         requires written { IsTrue (are_below self.old.reads.bound writes.now) }
         requires read { IsTrue (are_below self.old.reads.bound reads.now) }
         ensures bound { self.new.reads.bound ≡ self.old.reads.bound }
@@ -61,7 +61,7 @@ impl Summary {
     }
 
     /// Puts other statements before the statements.
-    pub(crate) fn prepend(&mut self, earlier: &Summary)
+    pub fn prepend(&mut self, earlier: &Summary)
         requires { self.old.reads.bound ≡ earlier.now.reads.bound }
         ensures bound { self.new.reads.bound ≡ self.old.reads.bound }
         ensures hands { (after : Names) → handed self.new after ≡ handed earlier.now (handed self.old after) }
@@ -72,7 +72,7 @@ impl Summary {
     }
 
     /// Makes it that of either of two lists of statements.
-    pub(crate) fn join(&mut self, other: &Summary)
+    pub fn join(&mut self, other: &Summary)
         requires { self.old.reads.bound ≡ other.now.reads.bound }
         ensures bound { self.new.reads.bound ≡ self.old.reads.bound }
         ensures hands { (after : Names) →
@@ -83,7 +83,7 @@ impl Summary {
     }
 
     /// Puts before the statements that what others read first may be read.
-    pub(crate) fn read_first(&mut self, other: &Summary)
+    pub fn read_first(&mut self, other: &Summary)
         requires { self.old.reads.bound ≡ other.now.reads.bound }
         ensures bound { self.new.reads.bound ≡ self.old.reads.bound }
         ensures hands { (after : Names) →
@@ -120,7 +120,7 @@ impl Summary {
     }
 
     /// Puts a statement before the statements, its parts aside.
-    pub(crate) fn put_own(&mut self, s: &Stmt)
+    pub fn put_own(&mut self, s: &Stmt)
         requires { IsTrue (are_below self.old.reads.bound (statement_names s.now)) }
         ensures bound { self.new.reads.bound ≡ self.old.reads.bound }
         ensures hands { (after : Names) →

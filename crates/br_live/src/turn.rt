@@ -6,8 +6,8 @@ use crate::summary::Summary;
 
 /// What the first part of a loop does, and what the last part and then the first part do.
 #[derive(Drop)]
-pub(crate) struct Turn {
-    pub(crate) opening: Summary,
-    pub(crate) again: Summary,
+pub struct Turn {
+    pub opening: Summary,
+    pub again: Summary,
     ghost same_bound: { opening.reads.bound ≡ again.reads.bound },
 }

@@ -18,7 +18,7 @@ use std::alloc::Global;
 /// The summary of statements in turn. The turns of the loops in them are added, that of a loop after
 /// those in its parts.
 #[cycle(statement)]
-pub(crate) fn summary_of_all(
+pub fn summary_of_all(
     alloc: Global,
     names: u32,
     body: &[Stmt],

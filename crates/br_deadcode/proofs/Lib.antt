@@ -1,0 +1,11 @@
+pub mod Idle
+pub mod Lives
+pub mod Steps
+pub mod Exact
+pub mod Sums
+pub mod Falls
+pub mod Relates
+pub mod Sizes
+pub mod Runs
+pub mod Missing
+pub mod Rounds

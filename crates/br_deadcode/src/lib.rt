@@ -1,0 +1,8 @@
+//! Removal of statements that only write a name whose word is never read.
+#![tactic(auto)]
+
+mod copies;
+mod program;
+mod sweep;
+
+pub use program::remove_dead;
