@@ -20,3 +20,4 @@ pub mod VariableParts
 pub mod Weights
 pub mod Members
 pub mod FlatPrograms
+pub mod Simple

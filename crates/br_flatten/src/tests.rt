@@ -170,7 +170,7 @@ fn statements_of_texts(rt: HostRuntime) -> Result<(), Fail> {
             "(fn f (a) (r) (set r (add a 0xfffff800)) (set r (sub a 0xfffff800)) (set r (eq 3 a)) \
             (set r (mul a 4)) (set r (ltu 3 a)))",
             "(0) -> (1) of 3: Add 1 0 #-2048; lit 2 4294965248; Sub 1 0 2; Eq 1 0 #3; \
-            lit 2 4; Mul 1 0 2; lit 2 3; Ltu 1 2 0;\n",
+            Slu 1 0 #2; lit 2 3; Ltu 1 2 0;\n",
         ),
         // What is added to an address is its byte offset, where it is from -2048 to 2047.
         (
@@ -186,8 +186,49 @@ fn statements_of_texts(rt: HostRuntime) -> Result<(), Fail> {
         ),
         (
             "(fn f (a) (r) (set r (ite (eq (eq a 0) 0) 7 a)) (while (eq (mul a a) 0)))",
-            "(0) -> (1) of 4: lit 2 0; if Ne 0 2 [ lit 1 7; ] [ copy 1 0; ] \
+            "(0) -> (1) of 4: if 0 [ lit 1 7; ] [ copy 1 0; ] \
             loop [ Mul 2 0 0; lit 3 0; ] Eq 2 3 [ ]\n",
+        ),
+        // Where the test is whether a word is 0 that word is tested, and the parts are exchanged.
+        (
+            "(fn f (a) (r) (if (eq a 0) (then (set r 1)) (else (set r 2))) \
+            (if (eq 0 (add a 1)) (then (set r 3)) (else)) (set r (ite (eq a 0) 4 a)))",
+            "(0) -> (1) of 3: if 0 [ lit 1 2; ] [ lit 1 1; ] Add 2 0 #1; if 2 [ ] [ lit 1 3; ] \
+            if 0 [ copy 1 0; ] [ lit 1 4; ]\n",
+        ),
+        (
+            "(fn f (a b) (r) (if (eq (eq b 0) 0) (then (set r 1)) (else (set r 2))) \
+            (while (eq 0 (eq a 0)) (set a (sub a 1))) (while (eq (lts a b) 0) (set a b)))",
+            "(0 1) -> (2) of 3: if 1 [ lit 2 1; ] [ lit 2 2; ] loop [ ] 0 [ Sub 0 0 #1; ] \
+            loop [ ] Ges 0 1 [ copy 0 1; ]\n",
+        ),
+        // Operations on literals are computed, also those on what was computed.
+        (
+            "(fn f (a) (r) (set r (add a (sub (mul 3 4) (divu 9 2)))) (set r (divu 5 (xor 3 3))) \
+            (set r (remu 7 0)) (set r (srs 0x80000000 36)) (set r (lts 0xffffffff 0)) \
+            (set r (load4 (add (add 1024 1024) a))))",
+            "(0) -> (1) of 4: Add 1 0 #8; lit 1 4294967295; lit 1 7; lit 1 4160749568; lit 1 1; \
+            lit 3 2048; Add 2 0 3; load Four 1 2 0;\n",
+        ),
+        // Products, quotients and remainders by powers of two, and others.
+        (
+            "(fn f (a) (r) (set r (mul 8 a)) (set r (divu a 16)) (set r (remu a 2048)) \
+            (set r (remu a 4096)) (set r (divu a 0x80000000)) (set r (mul a 1)))",
+            "(0) -> (1) of 3: Slu 1 0 #3; Sru 1 0 #4; And 1 0 #2047; lit 2 4095; And 1 0 2; \
+            Sru 1 0 #31; Slu 1 0 #0;\n",
+        ),
+        (
+            "(fn f (a) (r) (set r (mul a 6)) (set r (divu 16 a)) (set r (remu a 0)) \
+            (set r (mulhuu 4 a)))",
+            "(0) -> (1) of 3: lit 2 6; Mul 1 0 2; lit 2 16; Divu 1 2 0; lit 2 0; Remu 1 0 2; \
+            lit 2 4; Mulhuu 1 0 2;\n",
+        ),
+        // A part that is never run is left out, and so are its variables.
+        (
+            "(fn f (a) (r) (if (eq 2 2) (then (set r 1)) (else (set x (load4 a)))) \
+            (if (ltu 2 2) (then (call () g)) (else (set y a))) (while (sub 1 1) (set z a)) \
+            (set r (ite 0 (divu a y) (ite 2 y a)))) (fn g () ())",
+            "(0) -> (1) of 3: lit 1 1; copy 2 0; copy 1 2;\n() -> () of 0:\n",
         ),
         (
             "(fn f (a) (r) (if a (then (set r 1)) (else (unset r) (seq (skip) (set r 2)))))",
@@ -204,7 +245,7 @@ fn statements_of_texts(rt: HostRuntime) -> Result<(), Fail> {
         ),
         (
             "(fn main () () (interact () MMIOWRITE 0x1001200C (add 5 7)))",
-            "() -> () of 3: lit 0 268509196; lit 2 5; Add 1 2 #7; write 0 1;\n",
+            "() -> () of 2: lit 0 268509196; lit 1 12; write 0 1;\n",
         ),
         (
             "(fn sum (n) (total last) (set total 0) (set last (sub n 1)) \
@@ -332,8 +373,8 @@ fn statements_of_examples(rt: HostRuntime) -> Result<(), Fail> {
                     (interact () MMIOWRITE 0x1001200c total)
                     (unset last)))))",
             "(0) -> (1 2) of 3: lit 1 0; Sub 2 0 #1; loop [ ] 0 [ Add 1 1 0; Sub 0 0 #1; ]\n\
-            () -> () of 4: lit 3 268509184; read 0 3; lit 3 0; if Eq 0 3 [ ] \
-            [ call (1 2) 0 (0); lit 3 268509196; write 3 1; ]\n",
+            () -> () of 4: lit 3 268509184; read 0 3; \
+            if 0 [ call (1 2) 0 (0); lit 3 268509196; write 3 1; ] [ ]\n",
         ),
     ];
     for (text, expected) in &rows {

@@ -1,0 +1,4 @@
+pub mod Values
+pub mod Runs
+pub mod Rules
+pub mod Sizes
