@@ -1,7 +1,7 @@
 // What holds of programs in their simplest form. These functions do nothing: each contract is a law of
 // the definitions.
 
-ghost use Rattle.std.specs.Prelude.{◌≡◌, ◌≤◌, ℕ, List, map};
+ghost use Rattle.std.specs.Prelude.{◌≡◌, ◌≤◌, ℕ, List};
 ghost use Rattle.std.specs.List.{Contains};
 ghost use Rattle.br_measure.specs.Bulk.{function_bulk};
 ghost use Rattle.br_measure.specs.Measure.{nested_buffers};
@@ -16,8 +16,10 @@ ghost use Rattle.br_syntax.specs.Shape.{IsShaped};
 
 /// Each function does the same, with the same choices and as much fuel.
 pub fn simple_programs_mean_the_same()
-    ensures function { (call : Callee) (f : Func) → run_function call (simple_function f) ≡ run_function call f }
-    ensures calls { (fs : List Func) (depth : ℕ) → function_of (simple_program fs) depth ≡ function_of fs depth }
+    ensures function { (call : Callee) (f : Func) →
+        run_function call (simple_function f) ≡ run_function call f }
+    ensures calls { (fs : List Func) (depth : ℕ) →
+        function_of (simple_program fs) depth ≡ function_of fs depth }
 {}
 
 /// Names that are not at fault, and limits that are kept.
@@ -30,5 +32,6 @@ pub fn simple_programs_keep_rules()
 pub fn simple_programs_are_no_larger()
     ensures bulk { (f : Func) → function_bulk (simple_function f) ≤ function_bulk f }
     ensures nested { (f : Func) → nested_buffers (simple_function f) ≤ nested_buffers f }
-    ensures callees { (f : Func) (x : Name) → Contains (callees (simple_function f)) x → Contains (callees f) x }
+    ensures callees { (f : Func) (x : Name) →
+        Contains (callees (simple_function f)) x → Contains (callees f) x }
 {}
