@@ -12,11 +12,14 @@ use Rattle.br_flatimp.specs.Parts.{written, read, parts, throughout, gathered, o
 use Rattle.br_flatimp.specs.Liveness.{is_in}
 use Rattle.br_flatimp.specs.WellFormed.{is_passing, is_well_formed_function, is_register_function, is_well_formed_head, is_well_formed_statement, names_differ, is_list_of_names, are_below, all_differ, fits, values_fit, uses_registers}
 use Rattle.br_flatimp.specs.Sizes.{own_bytes, statement_nest, nest, largest, function_bulk, flat_bulk}
-use Rattle.br_flatimp.specs.Runs.{Forgets, forgets_none, call_forgetting}
+use Rattle.br_flatimp.specs.Runs.{Forgets, call_forgetting}
+use Rattle.br_bytes.specs.Memory.{Memory}
+use Rattle.br_bytes.specs.Buffers.{AreWords}
+use Rattle.br_machine.specs.Start.{Leftover, IsLeftover, IsInData}
 use Rattle.br_machine.specs.State.{MachineState, IsMachine}
 use Rattle.br_machine.specs.Step.{step}
-use Rattle.br_emit.specs.Code.{Item, item_word, AllFit, Targets, written_names, changes, is_called, saved_bytes, callable_items, entry_items, direct_items, function_items, program_items, places}
-use Rattle.br_emit.specs.Laid.{Placed, is_fine, may_call, Function, Laid, callee_need, IsCodeOf, EntryShown, ShowsFunction}
+use Rattle.br_emit.specs.Code.{Item, item_word, entry_place, AllFit, Targets, written_names, changes, is_called, saved_bytes, callable_items, entry_items, direct_items, function_items, program_items, places}
+use Rattle.br_emit.specs.Laid.{Placed, is_fine, may_call, Function, Laid, callee_need, IsCodeOf, EntryShown}
 use Rattle.br_emit.proofs.Stepping.{Table}
 use Rattle.br_emit.proofs.Pieces.{placed-front, placed-back}
 use Rattle.br_emit.proofs.Leaves.{both}
@@ -358,9 +361,9 @@ few_names names xs h = let k = (both (nat_le (length xs) 8) (are_below names xs)
 called_function : (fs : List FlatFunc) (n g : ℕ) (f : FlatFunc) → slice_get fs n ≡ Some f → is_in (callees f) g ≡ true → is_called fs g ≡ true
 called_function fs n g f there is = some_of (λ h. list_any (λ k. k == g) (callees h)) fs n f there is
 
-pub function_laid : (fs : List FlatFunc) (targets : Targets) (need : ℕ → ℕ) (code : List ℕ) → IsCodeOf fs targets need code
-    → (n : ℕ) (f : FlatFunc) → slice_get fs n ≡ Some f → Function code fs targets forgets_none (is_called fs) need (callee_need fs need) (flat_bulk fs - 16) n f
-function_laid fs targets need code is n f there =
+pub function_laid : (fs : List FlatFunc) (targets : Targets) (forgets : Forgets) (need : ℕ → ℕ) (code : List ℕ) → IsCodeOf fs targets forgets need code
+    → (n : ℕ) (f : FlatFunc) → slice_get fs n ≡ Some f → Function code fs targets forgets (is_called fs) need (callee_need fs need) (flat_bulk fs - 16) n f
+function_laid fs targets forgets need code is n f there =
     let formed = (both (names_differ fs) (list_all (is_well_formed_function fs) fs) is.form.0).1 in
     let well = one_of (is_well_formed_function fs) fs n f formed there in
     let well2 = both (is_well_formed_head f) (list_all (is_well_formed_statement fs f.names) f.body) well in
@@ -376,31 +379,38 @@ function_laid fs targets need code is n f there =
       few_args = few_names f.names f.args head2.1;
       results = register3.1;
       few_results = few_names f.names f.results head.1;
-      body = body_fine fs f.names (changes forgets_none f) (may_call f need (callee_need fs need n)) f.body well2.1 register2.1
-          (λ x l. or_left (is_in (written_names f) x) (list_any (λ g. forgets_none g x) (callees f)) l)
+      body = body_fine fs f.names (changes forgets f) (may_call f need (callee_need fs need n)) f.body well2.1 register2.1
+          (λ x l. or_left (is_in (written_names f) x) (list_any (λ g. forgets g x) (callees f)) l)
           (λ g l. and_of (is_in (callees f) g) (nat_le (need g) (callee_need fs need n)) l (at_most (need g) (callee_need fs need n) (subst (λ q. need g ≤ q) (sym limit) (less_than_largest need (callees f) g l))));
       bulk = omega arith;
       needs = is.needs n f there;
       fours = body_fours fs f.names f.body well2.1;
       calls = λ g l. called_function fs n g f there l;
-      placed = λ called. stands (all_placed code (program_items targets forgets_none fs 0 fs) is.items is.fit) (place_of targets forgets_none fs 0 0 fs n f there) called;
+      placed = λ called. stands (all_placed code (program_items targets forgets fs 0 fs) is.items is.fit) (place_of targets forgets fs 0 0 fs n f there) called;
     }
   where
-    stands : Placed code 0 (program_items targets forgets_none fs 0 fs) → ((place : ℕ) × (slice_get (places targets forgets_none fs 0 0 fs) n ≡ Some place)) → is_called fs n ≡ true
-        → (place : ℕ) × (targets n ≡ 0x80300000 + 4 * place) × Placed code place (callable_items targets forgets_none n f)
+    stands : Placed code 0 (program_items targets forgets fs 0 fs) → ((place : ℕ) × (slice_get (places targets forgets fs 0 0 fs) n ≡ Some place)) → is_called fs n ≡ true
+        → (place : ℕ) × (targets n ≡ 0x80300000 + 4 * place) × Placed code place (callable_items targets forgets n f)
     stands placed (place, at_is) called =
-        let here = function_placed code targets forgets_none fs 0 0 fs placed n place f there at_is in
+        let here = function_placed code targets forgets fs 0 0 fs placed n place f there at_is in
         let number : 0 + n ≡ n = omega arith in
-        let here2 = subst (λ q. Placed code place (function_items targets forgets_none fs q f)) number here in
-        let here3 = subst (λ t. Placed code place (if t then callable_items targets forgets_none n f ++ entry_items (targets n) else direct_items targets f)) called here2 in
-        (place, is.aimed n place at_is, placed-front code place (callable_items targets forgets_none n f) (entry_items (targets n)) here3)
+        let here2 = subst (λ q. Placed code place (function_items targets forgets fs q f)) number here in
+        let here3 = subst (λ t. Placed code place (if t then callable_items targets forgets n f ++ entry_items (targets n) else direct_items targets f)) called here2 in
+        (place, is.aimed n place at_is, placed-front code place (callable_items targets forgets n f) (entry_items (targets n)) here3)
 
 -- ---- entries
 
-pub function_shown : (t : Table) (steps : (s : MachineState) (next : Option ℕ) → IsMachine s → IfSome next IsWord → IsMachine (step s next).0) (fs : List FlatFunc) (targets : Targets) (need : ℕ → ℕ) (code : List ℕ) → IsCodeOf fs targets need code
-    → (n : ℕ) (f : FlatFunc) (place : ℕ) → slice_get fs n ≡ Some f → slice_get (places targets forgets_none fs 0 0 fs) n ≡ Some place → need n ≤ 1048576
-    → ShowsFunction fs targets need code n f place
-function_shown t steps fs targets need code is n f place there at_is less fuel args count words m data_is answers words' j left =
+-- what a call from outside does, where calls forget names, is shown
+abbrev pub ShowsForgetting : List FlatFunc → Targets → Forgets → (ℕ → ℕ) → List ℕ → ℕ → FlatFunc → ℕ → Type 0
+ShowsForgetting fs targets forgets need code n f place =
+    (fuel : ℕ) (args : List ℕ) → length args ≡ length f.args → AreWords args
+    → (m : Memory) → IsInData m → (answers : List ℕ) → AreWords answers → (j : Leftover) → IsLeftover j
+    → EntryShown code (4 * entry_place targets forgets fs place n f) args m answers j fuel (need n) ((fuel + 1) * flat_bulk fs) (λ choices. call_forgetting forgets fs n args m answers choices fuel)
+
+pub function_shown : (t : Table) (steps : (s : MachineState) (next : Option ℕ) → IsMachine s → IfSome next IsWord → IsMachine (step s next).0) (fs : List FlatFunc) (targets : Targets) (forgets : Forgets) (need : ℕ → ℕ) (code : List ℕ) → IsCodeOf fs targets forgets need code
+    → (n : ℕ) (f : FlatFunc) (place : ℕ) → slice_get fs n ≡ Some f → slice_get (places targets forgets fs 0 0 fs) n ≡ Some place → need n ≤ 1048576
+    → ShowsForgetting fs targets forgets need code n f place
+function_shown t steps fs targets forgets need code is n f place there at_is less fuel args count words m data_is answers words' j left =
     by (is_called fs n) refl
   where
     low : ℕ
@@ -411,41 +421,41 @@ function_shown t steps fs targets need code is n f place there at_is less fuel a
       code = code;
       fs = fs;
       targets = targets;
-      forgets = forgets_none;
+      forgets = forgets;
       called = is_called fs;
       need = need;
       limit = callee_need fs need;
       low = low;
       total = flat_bulk fs - 16;
       bottom = omega arith;
-      functions = function_laid fs targets need code is;
+      functions = function_laid fs targets forgets need code is;
     }
 
     pays : 16 + (flat_bulk fs - 16) ≤ flat_bulk fs
     pays = let more = within_sum function_bulk fs n f there in omega arith
 
-    needs : saved_bytes forgets_none n f + nest f + callee_need fs need n ≤ need n
+    needs : saved_bytes forgets n f + nest f + callee_need fs need n ≤ need n
     needs = is.needs n f there
 
-    here : Placed code place (function_items targets forgets_none fs n f)
+    here : Placed code place (function_items targets forgets fs n f)
     here =
         let number : 0 + n ≡ n = omega arith in
-        subst (λ q. Placed code place (function_items targets forgets_none fs q f)) number
-        (function_placed code targets forgets_none fs 0 0 fs (all_placed code (program_items targets forgets_none fs 0 fs) is.items is.fit) n place f there at_is)
+        subst (λ q. Placed code place (function_items targets forgets fs q f)) number
+        (function_placed code targets forgets fs 0 0 fs (all_placed code (program_items targets forgets fs 0 fs) is.items is.fit) n place f there at_is)
 
     Shown : ℕ → Type 0
-    Shown entry = EntryShown code (4 * entry) args m answers j fuel (need n) ((fuel + 1) * flat_bulk fs) (λ choices. call_forgetting forgets_none fs n args m answers choices fuel)
+    Shown entry = EntryShown code (4 * entry) args m answers j fuel (need n) ((fuel + 1) * flat_bulk fs) (λ choices. call_forgetting forgets fs n args m answers choices fuel)
 
-    by : (b : Bool) → is_called fs n ≡ b → Shown (if is_called fs n then place + length (callable_items targets forgets_none n f) else place)
+    by : (b : Bool) → is_called fs n ≡ b → Shown (if is_called fs n then place + length (callable_items targets forgets n f) else place)
     by true called =
         let room : low + need n ≤ 0x80300000 = omega arith in
-        let here2 = subst (λ b. Placed code place (if b then callable_items targets forgets_none n f ++ entry_items (targets n) else direct_items targets f)) called here in
-        let entry = placed-back code place (callable_items targets forgets_none n f) (entry_items (targets n)) here2 in
-        subst (λ b. Shown (if b then place + length (callable_items targets forgets_none n f) else place)) (sym called)
-        (called_shown (world laid t steps) n f (place + length (callable_items targets forgets_none n f)) (flat_bulk fs) (need n) fuel there called entry is.few room pays refl args count words m data_is answers words' j left)
+        let here2 = subst (λ b. Placed code place (if b then callable_items targets forgets n f ++ entry_items (targets n) else direct_items targets f)) called here in
+        let entry = placed-back code place (callable_items targets forgets n f) (entry_items (targets n)) here2 in
+        subst (λ b. Shown (if b then place + length (callable_items targets forgets n f) else place)) (sym called)
+        (called_shown (world laid t steps) n f (place + length (callable_items targets forgets n f)) (flat_bulk fs) (need n) fuel there called entry is.few room pays refl args count words m data_is answers words' j left)
     by false called =
         let needed = needs in
         let room : low + nest f + callee_need fs need n ≤ 0x80300000 = omega (arith, needed) in
-        let here2 = subst (λ b. Placed code place (if b then callable_items targets forgets_none n f ++ entry_items (targets n) else direct_items targets f)) called here in
-        subst (λ b. Shown (if b then place + length (callable_items targets forgets_none n f) else place)) (sym called)
+        let here2 = subst (λ b. Placed code place (if b then callable_items targets forgets n f ++ entry_items (targets n) else direct_items targets f)) called here in
+        subst (λ b. Shown (if b then place + length (callable_items targets forgets n f) else place)) (sym called)
         (direct_shown (world laid t steps) n f place (flat_bulk fs) (need n) fuel there here2 is.few room pays refl args count words m data_is answers words' j left)

@@ -5,7 +5,7 @@ use Rattle.std.proofs.lemmas.List.{get_or-replicate, length-replicate}
 use Rattle.br_flatimp.specs.declared.program.FlatFunc.{FlatFunc}
 use Rattle.br_flatimp.specs.Parts.{callees}
 use Rattle.br_flatimp.specs.Liveness.{is_in}
-use Rattle.br_flatimp.specs.Runs.{forgets_none}
+use Rattle.br_flatimp.specs.Runs.{Forgets}
 use Rattle.br_emit.specs.Code.{Targets, callable_items, entry_items, direct_items, is_called, program_items}
 use Rattle.br_emit.specs.Sizes.{callable_words, function_words, begins, entries, program_words}
 use Rattle.br_emit.specs.Marks.{marked}
@@ -47,27 +47,27 @@ agree_here p q n size h = h n (omega arith) (omega arith)
 agree_rest : (p q : ℕ → Bool) (n size : ℕ) → Agree p q n (suc size) → Agree p q (n + 1) size
 agree_rest p q n size h k from below = h k (omega (arith, from)) (omega (arith, below))
 
-pub same_begins : (p q : ℕ → Bool) (place n : ℕ) (rest : List FlatFunc) → Agree p q n (length rest) → begins p place n rest ≡ begins q place n rest
-same_begins p q place n [] h = refl
-same_begins p q place n (f ∷ rest) h =
-    ap (λ l. place ∷ l) (same_begins p q (place + function_words (p n) f) (n + 1) rest (agree_rest p q n (length rest) h)
-    ∙ ap (λ b. begins q (place + function_words b f) (n + 1) rest) (agree_here p q n (length rest) h))
+pub same_begins : (forgets : Forgets) (p q : ℕ → Bool) (place n : ℕ) (rest : List FlatFunc) → Agree p q n (length rest) → begins forgets p place n rest ≡ begins forgets q place n rest
+same_begins forgets p q place n [] h = refl
+same_begins forgets p q place n (f ∷ rest) h =
+    ap (λ l. place ∷ l) (same_begins forgets p q (place + function_words forgets (p n) n f) (n + 1) rest (agree_rest p q n (length rest) h)
+    ∙ ap (λ b. begins forgets q (place + function_words forgets b n f) (n + 1) rest) (agree_here p q n (length rest) h))
 
-pub same_entries : (p q : ℕ → Bool) (place n : ℕ) (rest : List FlatFunc) → Agree p q n (length rest) → entries p place n rest ≡ entries q place n rest
-same_entries p q place n [] h = refl
-same_entries p q place n (f ∷ rest) h =
-    ap (λ l. (if p n then place + callable_words f else place) ∷ l) (same_entries p q (place + function_words (p n) f) (n + 1) rest (agree_rest p q n (length rest) h))
-    ∙ ap (λ b. (if b then place + callable_words f else place) ∷ entries q (place + function_words b f) (n + 1) rest) (agree_here p q n (length rest) h)
+pub same_entries : (forgets : Forgets) (p q : ℕ → Bool) (place n : ℕ) (rest : List FlatFunc) → Agree p q n (length rest) → entries forgets p place n rest ≡ entries forgets q place n rest
+same_entries forgets p q place n [] h = refl
+same_entries forgets p q place n (f ∷ rest) h =
+    ap (λ l. (if p n then place + callable_words forgets n f else place) ∷ l) (same_entries forgets p q (place + function_words forgets (p n) n f) (n + 1) rest (agree_rest p q n (length rest) h))
+    ∙ ap (λ b. (if b then place + callable_words forgets n f else place) ∷ entries forgets q (place + function_words forgets b n f) (n + 1) rest) (agree_here p q n (length rest) h)
 
-pub same_words : (p q : ℕ → Bool) (n : ℕ) (rest : List FlatFunc) → Agree p q n (length rest) → program_words p n rest ≡ program_words q n rest
-same_words p q n [] h = refl
-same_words p q n (f ∷ rest) h =
-    ap (λ l. function_words (p n) f + l) (same_words p q (n + 1) rest (agree_rest p q n (length rest) h))
-    ∙ ap (λ b. function_words b f + program_words q (n + 1) rest) (agree_here p q n (length rest) h)
+pub same_words : (forgets : Forgets) (p q : ℕ → Bool) (n : ℕ) (rest : List FlatFunc) → Agree p q n (length rest) → program_words forgets p n rest ≡ program_words forgets q n rest
+same_words forgets p q n [] h = refl
+same_words forgets p q n (f ∷ rest) h =
+    ap (λ l. function_words forgets (p n) n f + l) (same_words forgets p q (n + 1) rest (agree_rest p q n (length rest) h))
+    ∙ ap (λ b. function_words forgets b n f + program_words forgets q (n + 1) rest) (agree_here p q n (length rest) h)
 
 -- functions one after another are the program
-pub rest_is : (targets : Targets) (p : ℕ → Bool) (fs : List FlatFunc) (n : ℕ) (rest : List FlatFunc) → Agree p (is_called fs) n (length rest) → rest_items targets p n rest ≡ program_items targets forgets_none fs n rest
-rest_is targets p fs n [] h = refl
-rest_is targets p fs n (f ∷ rest) h =
-    ap (λ l. one_items targets (p n) (targets n) f ++ l) (rest_is targets p fs (n + 1) rest (agree_rest p (is_called fs) n (length rest) h))
-    ∙ ap (λ b. (if b then callable_items targets forgets_none n f ++ entry_items (targets n) else direct_items targets f) ++ program_items targets forgets_none fs (n + 1) rest) (agree_here p (is_called fs) n (length rest) h)
+pub rest_is : (targets : Targets) (forgets : Forgets) (p : ℕ → Bool) (fs : List FlatFunc) (n : ℕ) (rest : List FlatFunc) → Agree p (is_called fs) n (length rest) → rest_items targets forgets p n rest ≡ program_items targets forgets fs n rest
+rest_is targets forgets p fs n [] h = refl
+rest_is targets forgets p fs n (f ∷ rest) h =
+    ap (λ l. one_items targets forgets (p n) n (targets n) f ++ l) (rest_is targets forgets p fs (n + 1) rest (agree_rest p (is_called fs) n (length rest) h))
+    ∙ ap (λ b. (if b then callable_items targets forgets n f ++ entry_items (targets n) else direct_items targets f) ++ program_items targets forgets fs (n + 1) rest) (agree_here p (is_called fs) n (length rest) h)

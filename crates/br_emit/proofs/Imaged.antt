@@ -11,13 +11,15 @@ use Rattle.br_base.specs.Name.{IsName}
 use Rattle.br_words.specs.declared.layout.Layout.TheVariants.{Two}
 use Rattle.br_flatimp.specs.declared.program.FlatFunc.{FlatFunc}
 use Rattle.br_flatimp.specs.Parts.{throughout, callees}
-use Rattle.br_flatimp.specs.Runs.{forgets_none, call}
+use Rattle.br_flatimp.specs.Renaming.{ReadsNoForgotten}
+use Rattle.br_flatimp.specs.Runs.{Forgets, call}
 use Rattle.br_flatimp.specs.Sizes.{nest, largest, own_need, function_bulk, flat_bulk}
 use Rattle.br_flatimp.specs.WellFormed.{IsRegisterForm, names_differ, is_well_formed_function, is_well_formed_head, is_well_formed_statement, is_register_function, is_passing, is_list_of_names, are_below, all_differ, uses_registers}
 use Rattle.br_image.specs.declared.images.Entry.{Entry}
 use Rattle.br_image.specs.Limits.{InLimits, EntryInLimits, HaveDifferentNames}
 use Rattle.br_emit.specs.Code.{AllFit, item_word, Targets, callable_items, program_items, places, entry_place, is_called, function_items}
 use Rattle.br_emit.specs.Sizes.{callable_words, function_words, begins, entries, program_words}
+use Rattle.br_emit.specs.Registers.{IsClosed}
 use Rattle.br_emit.specs.Ready.{InReach, aimed, is_encodable}
 use Rattle.br_emit.specs.Written.{rest_items, flagged, AreCalled, Writable, CanWrite, address_of, offset_of, addresses, entry_offsets}
 use Rattle.br_emit.specs.Laid.{IsCodeOf, EntryShown, ShowsFunction, callee_need}
@@ -140,75 +142,76 @@ have_few_names fs form = all_by HasFewNames fs (λ n f there. let is = formed fs
 
 -- ---- addresses
 
-below : (called : ℕ → Bool) (place n : ℕ) (rest : List FlatFunc) (g : ℕ) → get_or (map address_of (begins called place n rest)) g 0 ≤ address_of (place + program_words called n rest)
-below called place n [] g = omega arith
-below called place n (f ∷ rest) zero = omega arith
-below called place n (f ∷ rest) (suc g) = let later = below called (place + function_words (called n) f) (n + 1) rest g in omega (arith, later)
+below : (forgets : Forgets) (called : ℕ → Bool) (place n : ℕ) (rest : List FlatFunc) (g : ℕ) → get_or (map address_of (begins forgets called place n rest)) g 0 ≤ address_of (place + program_words forgets called n rest)
+below forgets called place n [] g = omega arith
+below forgets called place n (f ∷ rest) zero = omega arith
+below forgets called place n (f ∷ rest) (suc g) = let later = below forgets called (place + function_words forgets (called n) n f) (n + 1) rest g in omega (arith, later)
 
-pub in_reach : (fs : List FlatFunc) → flat_bulk fs ≤ 1048576 → (g : ℕ) → InReach (aimed (addresses fs) g)
-in_reach fs fit g =
-    let most = program_most (is_called fs) 0 fs in
-    let less : aimed (addresses fs) g ≤ 0x80300000 + 4 * (0 + program_words (is_called fs) 0 fs) = below (is_called fs) 0 0 fs g in
+pub in_reach : (forgets : Forgets) (fs : List FlatFunc) → flat_bulk fs ≤ 1048576 → (g : ℕ) → InReach (aimed (addresses forgets fs) g)
+in_reach forgets fs fit g =
+    let most = program_most forgets (is_called fs) 0 fs in
+    let less : aimed (addresses forgets fs) g ≤ 0x80300000 + 4 * (0 + program_words forgets (is_called fs) 0 fs) = below forgets (is_called fs) 0 0 fs g in
     omega (arith, most, less, fit)
 
-aimed_at : (fs : List FlatFunc) (n place : ℕ) → slice_get (places (aimed (addresses fs)) forgets_none fs 0 0 fs) n ≡ Some place → aimed (addresses fs) n ≡ 0x80300000 + 4 * place
-aimed_at fs n place at = get_some address_of (begins (is_called fs) 0 0 fs) n place (ap (λ q. slice_get q n) (begins_are (aimed (addresses fs)) fs 0 0 fs) ∙ at)
+aimed_at : (forgets : Forgets) (fs : List FlatFunc) (n place : ℕ) → slice_get (places (aimed (addresses forgets fs)) forgets fs 0 0 fs) n ≡ Some place → aimed (addresses forgets fs) n ≡ 0x80300000 + 4 * place
+aimed_at forgets fs n place at = get_some address_of (begins forgets (is_called fs) 0 0 fs) n place (ap (λ q. slice_get q n) (begins_are (aimed (addresses forgets fs)) forgets fs 0 0 fs) ∙ at)
 
 -- ---- what is written, by the flags of called functions
 
-pub words_few : (fs : List FlatFunc) (flags : List Bool) (most : ℕ) → AreCalled flags fs → flat_bulk fs ≤ most → program_words (flagged flags) 0 fs ≤ most
-words_few fs flags bound are fit =
-    let same = same_words (flagged flags) (is_called fs) 0 fs (agree fs flags are) in
-    let most = program_most (is_called fs) 0 fs in
+pub words_few : (forgets : Forgets) (fs : List FlatFunc) (flags : List Bool) (most : ℕ) → AreCalled flags fs → flat_bulk fs ≤ most → program_words forgets (flagged flags) 0 fs ≤ most
+words_few forgets fs flags bound are fit =
+    let same = same_words forgets (flagged flags) (is_called fs) 0 fs (agree fs flags are) in
+    let most = program_most forgets (is_called fs) 0 fs in
     omega (arith, same, most, fit)
 
-pub record Plan (fs : List FlatFunc) (flags : List Bool) (targets : List ℕ) : Type 0 where
+pub record Plan (forgets : Forgets) (fs : List FlatFunc) (flags : List Bool) (targets : List ℕ) : Type 0 where
   pub reach : (g : ℕ) → InReach (aimed targets g)
-  pub words : length (rest_items (aimed targets) (flagged flags) 0 fs) ≡ program_words (flagged flags) 0 fs
-  pub items : rest_items (aimed targets) (flagged flags) 0 fs ≡ program_items (aimed (addresses fs)) forgets_none fs 0 fs
+  pub words : length (rest_items (aimed targets) forgets (flagged flags) 0 fs) ≡ program_words forgets (flagged flags) 0 fs
+  pub items : rest_items (aimed targets) forgets (flagged flags) 0 fs ≡ program_items (aimed (addresses forgets fs)) forgets fs 0 fs
 
-pub plan : (fs : List FlatFunc) (flags : List Bool) (targets : List ℕ) → AreCalled flags fs → flat_bulk fs ≤ 1048576 → targets ≡ map address_of (begins (flagged flags) 0 0 fs) → Plan fs flags targets
-plan fs flags targets are fit is =
+pub plan : (forgets : Forgets) (fs : List FlatFunc) (flags : List Bool) (targets : List ℕ) → AreCalled flags fs → flat_bulk fs ≤ 1048576 → targets ≡ map address_of (begins forgets (flagged flags) 0 0 fs) → Plan forgets fs flags targets
+plan forgets fs flags targets are fit is =
     let agrees = agree fs flags are in
-    let targets_are : targets ≡ addresses fs = is ∙ ap (map address_of) (same_begins (flagged flags) (is_called fs) 0 0 fs agrees) in
-    let items = rest_is (aimed targets) (flagged flags) fs 0 fs agrees in
+    let targets_are : targets ≡ addresses forgets fs = is ∙ ap (map address_of) (same_begins forgets (flagged flags) (is_called fs) 0 0 fs agrees) in
+    let items = rest_is (aimed targets) forgets (flagged flags) fs 0 fs agrees in
     record {
-      reach = λ g. subst (λ q. InReach (aimed q g)) (sym targets_are) (in_reach fs fit g);
-      words = ap length items ∙ program_length (aimed targets) fs 0 fs ∙ sym (same_words (flagged flags) (is_called fs) 0 fs agrees);
-      items = items ∙ ap (λ q. program_items (aimed q) forgets_none fs 0 fs) targets_are;
+      reach = λ g. subst (λ q. InReach (aimed q g)) (sym targets_are) (in_reach forgets fs fit g);
+      words = ap length items ∙ program_length (aimed targets) forgets fs 0 fs ∙ sym (same_words forgets (flagged flags) (is_called fs) 0 fs agrees);
+      items = items ∙ ap (λ q. program_items (aimed q) forgets fs 0 fs) targets_are;
     }
 
-pub offsets_are : (fs : List FlatFunc) (flags : List Bool) → AreCalled flags fs → map offset_of (entries (flagged flags) 0 0 fs) ≡ entry_offsets fs
-offsets_are fs flags are = ap (map offset_of) (same_entries (flagged flags) (is_called fs) 0 0 fs (agree fs flags are))
+pub offsets_are : (forgets : Forgets) (fs : List FlatFunc) (flags : List Bool) → AreCalled flags fs → map offset_of (entries forgets (flagged flags) 0 0 fs) ≡ entry_offsets forgets fs
+offsets_are forgets fs flags are = ap (map offset_of) (same_entries forgets (flagged flags) (is_called fs) 0 0 fs (agree fs flags are))
 
-entries_long : (called : ℕ → Bool) (place n : ℕ) (rest : List FlatFunc) → length (entries called place n rest) ≡ length rest
-entries_long called place n [] = refl
-entries_long called place n (f ∷ rest) = let rest_long = entries_long called (place + function_words (called n) f) (n + 1) rest in omega (arith, rest_long)
+entries_long : (forgets : Forgets) (called : ℕ → Bool) (place n : ℕ) (rest : List FlatFunc) → length (entries forgets called place n rest) ≡ length rest
+entries_long forgets called place n [] = refl
+entries_long forgets called place n (f ∷ rest) = let rest_long = entries_long forgets called (place + function_words forgets (called n) n f) (n + 1) rest in omega (arith, rest_long)
 
-pub offsets_long : (fs : List FlatFunc) → length (entry_offsets fs) ≡ length fs
-offsets_long fs = length-map (entries (is_called fs) 0 0 fs) offset_of ∙ entries_long (is_called fs) 0 0 fs
+pub offsets_long : (forgets : Forgets) (fs : List FlatFunc) → length (entry_offsets forgets fs) ≡ length fs
+offsets_long forgets fs = length-map (entries forgets (is_called fs) 0 0 fs) offset_of ∙ entries_long forgets (is_called fs) 0 0 fs
 
 -- ---- code
 
-pub code_most : (fs : List FlatFunc) (code : List ℕ) → code ≡ map item_word (program_items (aimed (addresses fs)) forgets_none fs 0 fs) → length code ≤ flat_bulk fs
-code_most fs code items =
-    let all = program_items (aimed (addresses fs)) forgets_none fs 0 fs in
+pub code_most : (forgets : Forgets) (fs : List FlatFunc) (code : List ℕ) → code ≡ map item_word (program_items (aimed (addresses forgets fs)) forgets fs 0 fs) → length code ≤ flat_bulk fs
+code_most forgets fs code items =
+    let all = program_items (aimed (addresses forgets fs)) forgets fs 0 fs in
     let size : length code ≡ length all = ap length items ∙ length-map all item_word in
-    let words = program_length (aimed (addresses fs)) fs 0 fs in
-    let most = program_most (is_called fs) 0 fs in
+    let words = program_length (aimed (addresses forgets fs)) forgets fs 0 fs in
+    let most = program_most forgets (is_called fs) 0 fs in
     omega (arith, size, words, most)
 
-pub code_is : (fs : List FlatFunc) (ns code : List ℕ) → IsRegisterForm fs → AreNeeds fs ns → All (λ n. n ≤ 1048576) ns → flat_bulk fs ≤ 1048576
-    → code ≡ map item_word (program_items (aimed (addresses fs)) forgets_none fs 0 fs) → AllFit (program_items (aimed (addresses fs)) forgets_none fs 0 fs) → IsCodeOf fs (aimed (addresses fs)) (λ g. get_or ns g 0) code
-code_is fs ns code form is few fit items all_fit = record {
+pub code_is : (forgets : Forgets) (fs : List FlatFunc) (ns code : List ℕ) → ReadsNoForgotten forgets fs → IsClosed forgets fs → IsRegisterForm fs → AreNeeds fs ns → All (λ n. n ≤ 1048576) ns → flat_bulk fs ≤ 1048576
+    → code ≡ map item_word (program_items (aimed (addresses forgets fs)) forgets fs 0 fs) → AllFit (program_items (aimed (addresses forgets fs)) forgets fs 0 fs) → IsCodeOf fs (aimed (addresses forgets fs)) forgets (λ g. get_or ns g 0) code
+code_is forgets fs ns code dead closed form is few fit items all_fit = record {
   form = form;
   items = items;
   fit = all_fit;
-  few = let most = code_most fs code items in omega (arith, most, fit);
-  aimed = aimed_at fs;
+  few = let most = code_most forgets fs code items in omega (arith, most, fit);
+  aimed = aimed_at forgets fs;
+  dead = dead;
   needs = λ n f there.
       let own = needed fs ns is few n f there in
-      let enough = own_need_is_enough n f in
+      let enough = own_need_is_enough forgets fs n f closed there in
       let limit : callee_need fs (λ g. get_or ns g 0) n ≡ largest (map (λ g. get_or ns g 0) (callees f)) = rw there refl in
       omega (arith, own, enough, limit);
 }
@@ -252,75 +255,75 @@ entry_at offsets ns n (g ∷ rest) (suc k) f e there at =
     entry_at offsets ns (n + 1) rest k f e there at ∙ ap (λ q. entry_of f (get_or offsets q 0) (get_or ns q 0)) number
 
 -- where the function of a number stands, and its entry
-record Stands (targets : Targets) (fs : List FlatFunc) (place n : ℕ) (rest : List FlatFunc) (k : ℕ) (f : FlatFunc) : Type 0 where
+record Stands (targets : Targets) (forgets : Forgets) (fs : List FlatFunc) (place n : ℕ) (rest : List FlatFunc) (k : ℕ) (f : FlatFunc) : Type 0 where
   at : ℕ
-  there : slice_get (places targets forgets_none fs place n rest) k ≡ Some at
-  entry : get_or (map offset_of (entries (is_called fs) place n rest)) k 0 ≡ 4 * entry_place targets forgets_none fs at (n + k) f
+  there : slice_get (places targets forgets fs place n rest) k ≡ Some at
+  entry : get_or (map offset_of (entries forgets (is_called fs) place n rest)) k 0 ≡ 4 * entry_place targets forgets fs at (n + k) f
 
-stands : (targets : Targets) (fs : List FlatFunc) (place n : ℕ) (rest : List FlatFunc) (k : ℕ) (f : FlatFunc) → slice_get rest k ≡ Some f → Stands targets fs place n rest k f
-stands targets fs place n [] k f is = absurd (cc)
-stands targets fs place n (g ∷ rest) zero f is =
+stands : (targets : Targets) (forgets : Forgets) (fs : List FlatFunc) (place n : ℕ) (rest : List FlatFunc) (k : ℕ) (f : FlatFunc) → slice_get rest k ≡ Some f → Stands targets forgets fs place n rest k f
+stands targets forgets fs place n [] k f is = absurd (cc)
+stands targets forgets fs place n (g ∷ rest) zero f is =
     let same : g ≡ f = cc in
     let number : n ≡ n + 0 = omega arith in
     record {
       at = place;
       there = refl;
       entry =
-          ap (λ w. 4 * (if is_called fs n then place + w else place)) (sym (callable_length targets n g))
-          ∙ ap (λ h. 4 * (if is_called fs n then place + length (callable_items targets forgets_none n h) else place)) same
-          ∙ ap (λ q. 4 * (if is_called fs q then place + length (callable_items targets forgets_none q f) else place)) number;
+          ap (λ w. 4 * (if is_called fs n then place + w else place)) (sym (callable_length targets forgets n g))
+          ∙ ap (λ h. 4 * (if is_called fs n then place + length (callable_items targets forgets n h) else place)) same
+          ∙ ap (λ q. 4 * (if is_called fs q then place + length (callable_items targets forgets q f) else place)) number;
     }
-stands targets fs place n (g ∷ rest) (suc k) f is =
-    let next = stands targets fs (place + length (function_items targets forgets_none fs n g)) (n + 1) rest k f is in
+stands targets forgets fs place n (g ∷ rest) (suc k) f is =
+    let next = stands targets forgets fs (place + length (function_items targets forgets fs n g)) (n + 1) rest k f is in
     let number : n + 1 + k ≡ n + suc k = omega arith in
     record {
       at = next.at;
       there = next.there;
       entry =
-          ap (λ w. get_or (map offset_of (entries (is_called fs) (place + w) (n + 1) rest)) k 0) (sym (function_length targets fs n g))
+          ap (λ w. get_or (map offset_of (entries forgets (is_called fs) (place + w) (n + 1) rest)) k 0) (sym (function_length targets forgets fs n g))
           ∙ next.entry
-          ∙ ap (λ q. 4 * entry_place targets forgets_none fs next.at q f) number;
+          ∙ ap (λ q. 4 * entry_place targets forgets fs next.at q f) number;
     }
 
 -- the law of programs in code
 abbrev pub CodeShows : Type 0
-CodeShows = (fs : List FlatFunc) (targets : Targets) (need : ℕ → ℕ) (code : List ℕ) → IsCodeOf fs targets need code → (n : ℕ) (f : FlatFunc) (place : ℕ)
-    → slice_get fs n ≡ Some f → slice_get (places targets forgets_none fs 0 0 fs) n ≡ Some place → need n ≤ 1048576 → ShowsFunction fs targets need code n f place
+CodeShows = (fs : List FlatFunc) (targets : Targets) (forgets : Forgets) (need : ℕ → ℕ) (code : List ℕ) → IsCodeOf fs targets forgets need code → (n : ℕ) (f : FlatFunc) (place : ℕ)
+    → slice_get fs n ≡ Some f → slice_get (places targets forgets fs 0 0 fs) n ≡ Some place → need n ≤ 1048576 → ShowsFunction fs targets forgets need code n f place
 
-pub shows : (fs : List FlatFunc) (ns code : List ℕ) (es : List Entry) → CodeShows → IsCodeOf fs (aimed (addresses fs)) (λ g. get_or ns g 0) code → AreNeeds fs ns → All (λ n. n ≤ 1048576) ns
-    → es ≡ entries_of (entry_offsets fs) ns 0 fs → ShowsProgram fs es code
-shows fs ns code es law is needs_are few are n f e there at fuel args count words m data_is answers words' j left =
+pub shows : (forgets : Forgets) (fs : List FlatFunc) (ns code : List ℕ) (es : List Entry) → CodeShows → IsCodeOf fs (aimed (addresses forgets fs)) forgets (λ g. get_or ns g 0) code → AreNeeds fs ns → All (λ n. n ≤ 1048576) ns
+    → es ≡ entries_of (entry_offsets forgets fs) ns 0 fs → ShowsProgram fs es code
+shows forgets fs ns code es law is needs_are few are n f e there at fuel args count words m data_is answers words' j left =
     let number : 0 + n ≡ n = omega arith in
-    let stand = stands (aimed (addresses fs)) fs 0 0 fs n f there in
+    let stand = stands (aimed (addresses forgets fs)) forgets fs 0 0 fs n f there in
     let less = need_few fs ns needs_are few n f there in
-    let entry : e ≡ entry_of f (get_or (entry_offsets fs) n 0) (get_or ns n 0) =
-    entry_at (entry_offsets fs) ns 0 fs n f e there (ap (λ q. slice_get q n) (sym are) ∙ at) ∙ ap (λ q. entry_of f (get_or (entry_offsets fs) q 0) (get_or ns q 0)) number in
-    let offset : e.offset ≡ 4 * entry_place (aimed (addresses fs)) forgets_none fs stand.at n f =
-    ap (λ q. q.offset) entry ∙ stand.entry ∙ ap (λ q. 4 * entry_place (aimed (addresses fs)) forgets_none fs stand.at q f) number in
+    let entry : e ≡ entry_of f (get_or (entry_offsets forgets fs) n 0) (get_or ns n 0) =
+    entry_at (entry_offsets forgets fs) ns 0 fs n f e there (ap (λ q. slice_get q n) (sym are) ∙ at) ∙ ap (λ q. entry_of f (get_or (entry_offsets forgets fs) q 0) (get_or ns q 0)) number in
+    let offset : e.offset ≡ 4 * entry_place (aimed (addresses forgets fs)) forgets fs stand.at n f =
+    ap (λ q. q.offset) entry ∙ stand.entry ∙ ap (λ q. 4 * entry_place (aimed (addresses forgets fs)) forgets fs stand.at q f) number in
     let need_is : e.need ≡ get_or ns n 0 = ap (λ q. q.need) entry in
-    let shown = law fs (aimed (addresses fs)) (λ g. get_or ns g 0) code is n f stand.at there stand.there less fuel args count words m data_is answers words' j left in
+    let shown = law fs (aimed (addresses forgets fs)) forgets (λ g. get_or ns g 0) code is n f stand.at there stand.there less fuel args count words m data_is answers words' j left in
     subst (λ o. EntryShown code o args m answers j fuel e.need ((fuel + 1) * flat_bulk fs) (λ choices. call fs n args m answers choices fuel)) (sym offset)
-    (subst (λ d. EntryShown code (4 * entry_place (aimed (addresses fs)) forgets_none fs stand.at n f) args m answers j fuel d ((fuel + 1) * flat_bulk fs) (λ choices. call fs n args m answers choices fuel)) (sym need_is) shown)
+    (subst (λ d. EntryShown code (4 * entry_place (aimed (addresses forgets fs)) forgets fs stand.at n f) args m answers j fuel d ((fuel + 1) * flat_bulk fs) (λ choices. call fs n args m answers choices fuel)) (sym need_is) shown)
 
 -- ---- limits
 
-entries_inside : (called : ℕ → Bool) (place n : ℕ) (rest : List FlatFunc) (words : ℕ) → place + program_words called n rest ≤ words → All (IsOffset words) (map offset_of (entries called place n rest))
-entries_inside called place n [] words few = All-nil (IsOffset words)
-entries_inside called place n (f ∷ rest) words few =
-    All-cons (IsOffset words) (offset_of (if called n then place + callable_words f else place)) (map offset_of (entries called (place + function_words (called n) f) (n + 1) rest))
+entries_inside : (forgets : Forgets) (called : ℕ → Bool) (place n : ℕ) (rest : List FlatFunc) (words : ℕ) → place + program_words forgets called n rest ≤ words → All (IsOffset words) (map offset_of (entries forgets called place n rest))
+entries_inside forgets called place n [] words few = All-nil (IsOffset words)
+entries_inside forgets called place n (f ∷ rest) words few =
+    All-cons (IsOffset words) (offset_of (if called n then place + callable_words forgets n f else place)) (map offset_of (entries forgets called (place + function_words forgets (called n) n f) (n + 1) rest))
     (here (called n) few)
-    (entries_inside called (place + function_words (called n) f) (n + 1) rest words (omega (arith, few)))
+    (entries_inside forgets called (place + function_words forgets (called n) n f) (n + 1) rest words (omega (arith, few)))
   where
-    here : (b : Bool) → place + (function_words b f + program_words called (n + 1) rest) ≤ words → IsOffset words (offset_of (if b then place + callable_words f else place))
+    here : (b : Bool) → place + (function_words forgets b n f + program_words forgets called (n + 1) rest) ≤ words → IsOffset words (offset_of (if b then place + callable_words forgets n f else place))
     here true few = record { aligned = omega arith; inside = omega (arith, few) }
     here false few = record { aligned = omega arith; inside = omega (arith, few) }
 
-pub offsets_inside : (fs : List FlatFunc) (offsets code : List ℕ) → code ≡ map item_word (program_items (aimed (addresses fs)) forgets_none fs 0 fs) → offsets ≡ entry_offsets fs → All (IsOffset (length code)) offsets
-offsets_inside fs offsets code items are =
-    let all = program_items (aimed (addresses fs)) forgets_none fs 0 fs in
+pub offsets_inside : (forgets : Forgets) (fs : List FlatFunc) (offsets code : List ℕ) → code ≡ map item_word (program_items (aimed (addresses forgets fs)) forgets fs 0 fs) → offsets ≡ entry_offsets forgets fs → All (IsOffset (length code)) offsets
+offsets_inside forgets fs offsets code items are =
+    let all = program_items (aimed (addresses forgets fs)) forgets fs 0 fs in
     let size : length code ≡ length all = ap length items ∙ length-map all item_word in
-    let long = program_length (aimed (addresses fs)) fs 0 fs in
-    subst (All (IsOffset (length code))) (sym are) (entries_inside (is_called fs) 0 0 fs (length code) (omega (arith, size, long)))
+    let long = program_length (aimed (addresses forgets fs)) forgets fs 0 fs in
+    subst (All (IsOffset (length code))) (sym are) (entries_inside forgets (is_called fs) 0 0 fs (length code) (omega (arith, size, long)))
 
 each_in_limits : (words : ℕ) (offsets ns : List ℕ) (n : ℕ) (rest : List FlatFunc) → ((k : ℕ) (f : FlatFunc) → slice_get rest k ≡ Some f → EntryInLimits words (entry_of f (get_or offsets (n + k) 0) (get_or ns (n + k) 0)))
     → All (EntryInLimits words) (entries_of offsets ns n rest)

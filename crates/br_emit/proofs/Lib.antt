@@ -32,3 +32,10 @@ pub mod Flags
 pub mod Encodable
 pub mod Needing
 pub mod Imaged
+pub mod Refined
+pub mod Framed
+pub mod Bits
+pub mod Own
+pub mod Living
+pub mod Forgetting
+pub mod Changes

@@ -1,5 +1,6 @@
 -- What a function saves is within what it needs for itself.
-use Rattle.std.proofs.Common.{◌≡◌, ◌≢◌, ℕ, zero, suc, ◌+◌, ◌<◌, ◌≤◌, ◌==◌, ◌&&◌, ◌||◌, not, eqb, cond, if◌then◌else◌, Bool, true, false, List, [], ◌∷◌, ◌++◌, map, length, filter, refl, sym, ap, subst, ◌∙◌, arith}
+use Rattle.std.proofs.Common.{◌≡◌, ◌≢◌, ℕ, zero, suc, ◌+◌, ◌<◌, ◌≤◌, ◌==◌, ◌&&◌, ◌||◌, not, eqb, cond, if◌then◌else◌, Bool, true, false, List, [], ◌∷◌, ◌++◌, map, length, filter, Some, refl, sym, ap, subst, ◌∙◌, arith}
+use Rattle.std.specs.Prelude.{slice_get}
 use Rattle.std.specs.List.{flat_map, list_any}
 use Rattle.std.specs.Set.{is_member, unique_keys, distinct_count}
 use Rattle.std.proofs.lemmas.Bool.Decides.{nat_tests}
@@ -9,9 +10,10 @@ use Rattle.br_flatimp.specs.declared.program.Stmt.TheFolds.{fold-roll-Stmt, ind-
 use Rattle.br_flatimp.specs.declared.program.FlatFunc.{FlatFunc}
 use Rattle.br_flatimp.specs.Parts.{written, read, parts, gathered, statement_names, function_names, callees}
 use Rattle.br_flatimp.specs.Liveness.{is_in}
-use Rattle.br_flatimp.specs.Runs.{forgets_none}
+use Rattle.br_flatimp.specs.Runs.{Forgets}
 use Rattle.br_flatimp.specs.Sizes.{nest, own_need}
 use Rattle.br_emit.specs.Code.{count_up, written_names, changes, is_saved, saved_bytes}
+use Rattle.br_emit.specs.Registers.{IsClosed}
 
 -- ---- numbers that pass a test, and the different numbers of a list
 
@@ -124,7 +126,7 @@ few_passing (x ∷ xs) p a k h = by (is_member eqb xs x) refl (few_passing xs p 
 
 -- ---- the names that a function writes are among its names
 
-in_left : (xs ys : List ℕ) (x : ℕ) → is_in xs x ≡ true → is_in (xs ++ ys) x ≡ true
+pub in_left : (xs ys : List ℕ) (x : ℕ) → is_in xs x ≡ true → is_in (xs ++ ys) x ≡ true
 in_left [] ys x h = absurd (cc)
 in_left (y ∷ xs) ys x h = by (y == x) h (in_left xs ys x)
   where
@@ -132,7 +134,7 @@ in_left (y ∷ xs) ys x h = by (y == x) h (in_left xs ys x)
     by true h again = refl
     by false h again = again h
 
-in_right : (xs ys : List ℕ) (x : ℕ) → is_in ys x ≡ true → is_in (xs ++ ys) x ≡ true
+pub in_right : (xs ys : List ℕ) (x : ℕ) → is_in ys x ≡ true → is_in (xs ++ ys) x ≡ true
 in_right [] ys x h = h
 in_right (y ∷ xs) ys x h = by (y == x) (in_right xs ys x h)
   where
@@ -208,29 +210,38 @@ statement_written x = ind-Stmt (Claim x) (λ st y is. subst (λ z. Claim x (roll
         subst (λ q. is_in q x ≡ true) (sym (names_of own_names ∙ ap (λ q. q ++ inner2) w2))
         (in_both (written z) inner1 (written z ++ read z) inner2 x (λ l. in_left (written z) (read z) x l) (lists x (parts y)) before)
 
-body_written : (x : ℕ) (body : List Stmt) → is_in (flat_map (gathered written) body) x ≡ true → is_in (flat_map statement_names body) x ≡ true
+pub body_written : (x : ℕ) (body : List Stmt) → is_in (flat_map (gathered written) body) x ≡ true → is_in (flat_map statement_names body) x ≡ true
 body_written x [] h = h
 body_written x (st ∷ body) h =
     in_both (gathered written st) (flat_map (gathered written) body) (statement_names st) (flat_map statement_names body) x (statement_written x st) (body_written x body) h
 
-no_one : (gs : List ℕ) (x : ℕ) → list_any (λ g. forgets_none g x) gs ≡ false
-no_one [] x = refl
-no_one (g ∷ gs) x = no_one gs x
+-- ---- what a function saves is among its names
 
-or_false : (b : Bool) → (b || false) ≡ b
-or_false true = refl
-or_false false = refl
+some_one : (p : ℕ → Bool) (gs : List ℕ) → list_any p gs ≡ true → (g : ℕ) × (is_in gs g ≡ true) × (p g ≡ true)
+some_one p [] h = absurd (cc)
+some_one p (g ∷ gs) h = by (p g) refl h (some_one p gs)
+  where
+    by : (b : Bool) → p g ≡ b → (b || list_any p gs) ≡ true → (list_any p gs ≡ true → (k : ℕ) × (is_in gs k ≡ true) × (p k ≡ true)) → (k : ℕ) × (is_in (g ∷ gs) k ≡ true) × (p k ≡ true)
+    by true e h again = let same : (g == g) ≡ true = grind (arith, nat_tests) in (g, ap (λ b. b || is_in gs g) same, e)
+    by false e h again = let found = again h in (found.0, in_right (g ∷ []) gs found.0 found.1, found.2)
 
-saved_in : (n : ℕ) (f : FlatFunc) (x : ℕ) → is_saved forgets_none n f x ≡ true → is_in (function_names f) x ≡ true
-saved_in n f x h =
-    let h1 = (parts_of_and (changes forgets_none f x && not (is_in f.results x)) (not (forgets_none n x)) h).0 in
-    let h2 = (parts_of_and (changes forgets_none f x) (not (is_in f.results x)) h1).0 in
-    let writes : is_in (written_names f) x ≡ true = sym (or_false (is_in (written_names f) x)) ∙ ap (λ b. is_in (written_names f) x || b) (sym (no_one (callees f) x)) ∙ h2 in
-    in_right (f.args ++ f.results) (flat_map statement_names f.body) x (body_written x f.body writes)
+saved_in : (forgets : Forgets) (fs : List FlatFunc) (n : ℕ) (f : FlatFunc) (x : ℕ) → IsClosed forgets fs → slice_get fs n ≡ Some f → is_saved forgets n f x ≡ true → is_in (function_names f) x ≡ true
+saved_in forgets fs n f x closed there h =
+    let h1 = parts_of_and (changes forgets f x && not (is_in f.results x)) (not (forgets n x)) h in
+    let h2 = (parts_of_and (changes forgets f x) (not (is_in f.results x)) h1.0).0 in
+    by (is_in (written_names f) x) refl (forgets n x) refl h2 h1.1
+  where
+    by : (w : Bool) → is_in (written_names f) x ≡ w → (k : Bool) → forgets n x ≡ k → (w || list_any (λ g. forgets g x) (callees f)) ≡ true → not k ≡ true → is_in (function_names f) x ≡ true
+    by true writes k e any kept = in_right (f.args ++ f.results) (flat_map statement_names f.body) x (body_written x f.body writes)
+    by false writes true e any kept = absurd (cc)
+    by false writes false e any kept =
+        let found = some_one (λ g. forgets g x) (callees f) any in
+        let owned = closed n f there found.0 found.1 x found.2 in
+        sym (ap (λ b. b || is_in (function_names f) x) e) ∙ owned
 
 -- what a function saves and its buffers are no more than what it needs for itself
-pub own_need_is_enough : (n : ℕ) (f : FlatFunc) → saved_bytes forgets_none n f + nest f ≤ own_need f
-own_need_is_enough n f =
-    let counted = filter_length (is_saved forgets_none n f) 3 29 in
-    let few = few_passing (function_names f) (is_saved forgets_none n f) 3 29 (saved_in n f) in
+pub own_need_is_enough : (forgets : Forgets) (fs : List FlatFunc) (n : ℕ) (f : FlatFunc) → IsClosed forgets fs → slice_get fs n ≡ Some f → saved_bytes forgets n f + nest f ≤ own_need f
+own_need_is_enough forgets fs n f closed there =
+    let counted = filter_length (is_saved forgets n f) 3 29 in
+    let few = few_passing (function_names f) (is_saved forgets n f) 3 29 (λ x h. saved_in forgets fs n f x closed there h) in
     omega (arith, counted, few)

@@ -1,4 +1,4 @@
--- The registers that a function saves, found by the flags of the names that it writes.
+-- The registers that a function saves, as those of a set.
 use Rattle.std.proofs.Common.{◌≡◌, ℕ, zero, suc, ◌+◌, ◌-◌, ◌<◌, ◌≤◌, ◌&&◌, ◌||◌, not, if◌then◌else◌, Bool, true, false, List, [], ◌∷◌, ◌++◌, length, refl, sym, ap, ◌∙◌, arith, append_assoc, length-append}
 use Rattle.std.specs.Prelude.{All, filter, get_or, replicate}
 use Rattle.std.proofs.lemmas.List.Elements.{All-nil, All-cons}
@@ -7,10 +7,9 @@ use Rattle.std.proofs.lemmas.List.{get_or-replicate}
 use Rattle.br_flatimp.specs.declared.program.FlatFunc.{FlatFunc}
 use Rattle.br_flatimp.specs.Parts.{callees}
 use Rattle.br_flatimp.specs.Liveness.{is_in}
-use Rattle.br_flatimp.specs.Runs.{forgets_none}
-use Rattle.br_emit.specs.Code.{count_up, registers, written_names, changes, is_saved, saves}
-use Rattle.br_emit.specs.Marks.{marked}
-use Rattle.br_emit.proofs.Readiness.{flag_of}
+use Rattle.br_flatimp.specs.Runs.{Forgets}
+use Rattle.br_emit.specs.Code.{count_up, registers, is_saved, saves}
+use Rattle.br_emit.specs.Registers.{has}
 
 -- one register or none
 abbrev pub one_if : Bool → ℕ → List ℕ
@@ -51,29 +50,6 @@ filter_same p q a (suc n) same =
     ∙ ap (λ rs. one_if (q a) a ++ rs) (filter_same p q (a + 1) n (λ r less. same r (omega arith)))
     ∙ sym (filter_step q a (count_up (a + 1) n))
 
-no_one : (xs : List ℕ) → list_any (λ g. false) xs ≡ false
-no_one [] = refl
-no_one (x ∷ xs) = no_one xs
-
-or_false : (a : Bool) → (a || false) ≡ a
-or_false true = refl
-or_false false = refl
-
-and_true : (a : Bool) → (a && true) ≡ a
-and_true true = refl
-and_true false = refl
-
-saved_is : (f : FlatFunc) (r : ℕ) → r < 32 → (get_or (marked (replicate 32 false) (written_names f)) r false && not (is_in f.results r)) ≡ is_saved forgets_none 0 f r
-saved_is f r inside =
-    let flag = flag_of (replicate 32 false) (written_names f) r inside in
-    let unset : get_or (replicate 32 false) r false ≡ false = get_or-replicate 32 r false false inside in
-    let changed : changes forgets_none f r ≡ is_in (written_names f) r = ap (λ b. is_in (written_names f) r || b) (no_one (callees f)) ∙ or_false (is_in (written_names f) r) in
-    ap (λ b. b && not (is_in f.results r)) (flag ∙ ap (λ b. b || is_in (written_names f) r) unset ∙ sym changed)
-    ∙ sym (and_true (changes forgets_none f r && not (is_in f.results r)))
-
-pub saves_are : (f : FlatFunc) → filter (λ r. get_or (marked (replicate 32 false) (written_names f)) r false && not (is_in f.results r)) registers ≡ saves forgets_none 0 f
-saves_are f = filter_same (λ r. get_or (marked (replicate 32 false) (written_names f)) r false && not (is_in f.results r)) (is_saved forgets_none 0 f) 3 29 (saved_is f)
-
 small : (p : ℕ → Bool) (a n : ℕ) → a + n ≤ 32 → All (λ r. r < 32) (filter p (count_up a n))
 small p a zero less = All-nil (λ r. r < 32)
 small p a (suc n) less = pick (p a) (small p (a + 1) n (omega arith)) (omega arith)
@@ -82,8 +58,8 @@ small p a (suc n) less = pick (p a) (small p (a + 1) n (omega arith)) (omega ari
     pick true h k = All-cons (λ r. r < 32) a (filter p (count_up (a + 1) n)) k h
     pick false h k = h
 
-pub saves_small : (f : FlatFunc) → All (λ r. r < 32) (saves forgets_none 0 f)
-saves_small f = small (is_saved forgets_none 0 f) 3 29 (omega arith)
+pub saves_small : (forgets : Forgets) (n : ℕ) (f : FlatFunc) → All (λ r. r < 32) (saves forgets n f)
+saves_small forgets n f = small (is_saved forgets n f) 3 29 (omega arith)
 
 filter_most : (p : ℕ → Bool) (xs : List ℕ) → length (filter p xs) ≤ length xs
 filter_most p [] = omega arith
@@ -93,12 +69,9 @@ filter_most p (x ∷ xs) = pick (p x) (filter_most p xs)
     pick true h = omega arith
     pick false h = omega arith
 
-pub saves_few : (f : FlatFunc) → length (saves forgets_none 0 f) ≤ 29
-saves_few f = filter_most (is_saved forgets_none 0 f) registers
+pub saves_few : (forgets : Forgets) (n : ℕ) (f : FlatFunc) → length (saves forgets n f) ≤ 29
+saves_few forgets n f = filter_most (is_saved forgets n f) registers
 
-pub saves_from : (flags : List Bool) (results : List ℕ) (f : FlatFunc) → flags ≡ marked (replicate 32 false) (written_names f) → results ≡ f.results
-    → filter (λ r. get_or flags r false && not (is_in results r)) registers ≡ saves forgets_none 0 f
-saves_from flags results f is_flags is_results =
-    ap (λ (fs : List Bool). filter (λ r. get_or fs r false && not (is_in results r)) registers) is_flags
-    ∙ ap (λ (rs : List ℕ). filter (λ r. get_or (marked (replicate 32 false) (written_names f)) r false && not (is_in rs r)) registers) is_results
-    ∙ saves_are f
+-- the registers of a set that are the ones to save
+pub saves_from : (set : ℕ) (forgets : Forgets) (n : ℕ) (f : FlatFunc) → ((r : ℕ) → r < 32 → has set r ≡ is_saved forgets n f r) → filter (has set) registers ≡ saves forgets n f
+saves_from set forgets n f same = filter_same (has set) (is_saved forgets n f) 3 29 (λ r inside. same r inside)

@@ -11,7 +11,7 @@ use Rattle.br_flatimp.specs.declared.program.Stmt.TheFolds.{fold-roll-Stmt, ind-
 use Rattle.br_flatimp.specs.declared.program.FlatFunc.{FlatFunc}
 use Rattle.br_flatimp.specs.Parts.{parts}
 use Rattle.br_flatimp.specs.Sizes.{words_for, own_words, statement_bulk, function_bulk, flat_bulk, nest}
-use Rattle.br_flatimp.specs.Runs.{forgets_none}
+use Rattle.br_flatimp.specs.Runs.{Forgets}
 use Rattle.br_rv32im.specs.declared.instruction.Ins.TheVariants.{Imm, Reg, Ecall}
 use Rattle.br_rv32im.specs.declared.instruction.ImmOp.TheVariants.{Addi}
 use Rattle.std.specs.Prelude.{pos}
@@ -240,10 +240,10 @@ restore_length : (i : ℕ) (rs : List ℕ) → length (restore_items i rs) ≡ l
 restore_length i [] = refl
 restore_length i (r ∷ rs) = let rest = restore_length (i + 1) rs in omega arith
 
-pub callable_length : (targets : Targets) (n : ℕ) (f : FlatFunc) → length (callable_items targets forgets_none n f) ≡ callable_words f
-callable_length targets n f =
-    let rs = saves forgets_none n f in
-    let bytes = saved_bytes forgets_none n f in
+pub callable_length : (targets : Targets) (forgets : Forgets) (n : ℕ) (f : FlatFunc) → length (callable_items targets forgets n f) ≡ callable_words forgets n f
+callable_length targets forgets n f =
+    let rs = saves forgets n f in
+    let bytes = saved_bytes forgets n f in
     let down = move_items ((2 ^ 32 - nest f) % 2 ^ 32) in
     let body = all_items targets f.body (nest f) in
     let up = move_items (nest f) in
@@ -264,24 +264,24 @@ direct_length targets f =
     let words = all_words_are targets f.body (nest f) in
     omega arith
 
-pub function_length : (targets : Targets) (fs : List FlatFunc) (n : ℕ) (f : FlatFunc) → length (function_items targets forgets_none fs n f) ≡ function_words (is_called fs n) f
-function_length targets fs n f = by (is_called fs n) refl
+pub function_length : (targets : Targets) (forgets : Forgets) (fs : List FlatFunc) (n : ℕ) (f : FlatFunc) → length (function_items targets forgets fs n f) ≡ function_words forgets (is_called fs n) n f
+function_length targets forgets fs n f = by (is_called fs n) refl
   where
-    by : (b : Bool) → is_called fs n ≡ b → length (function_items targets forgets_none fs n f) ≡ function_words (is_called fs n) f
-    by true e = rw e (let size = length-append (callable_items targets forgets_none n f) (entry_items (targets n)) in let words = callable_length targets n f in omega arith)
+    by : (b : Bool) → is_called fs n ≡ b → length (function_items targets forgets fs n f) ≡ function_words forgets (is_called fs n) n f
+    by true e = rw e (let size = length-append (callable_items targets forgets n f) (entry_items (targets n)) in let words = callable_length targets forgets n f in omega arith)
     by false e = rw e (direct_length targets f)
 
-pub program_length : (targets : Targets) (fs : List FlatFunc) (n : ℕ) (rest : List FlatFunc) → length (program_items targets forgets_none fs n rest) ≡ program_words (is_called fs) n rest
-program_length targets fs n [] = refl
-program_length targets fs n (f ∷ rest) =
-    let size = length-append (function_items targets forgets_none fs n f) (program_items targets forgets_none fs (n + 1) rest) in
-    let here = function_length targets fs n f in
-    let there = program_length targets fs (n + 1) rest in
+pub program_length : (targets : Targets) (forgets : Forgets) (fs : List FlatFunc) (n : ℕ) (rest : List FlatFunc) → length (program_items targets forgets fs n rest) ≡ program_words forgets (is_called fs) n rest
+program_length targets forgets fs n [] = refl
+program_length targets forgets fs n (f ∷ rest) =
+    let size = length-append (function_items targets forgets fs n f) (program_items targets forgets fs (n + 1) rest) in
+    let here = function_length targets forgets fs n f in
+    let there = program_length targets forgets fs (n + 1) rest in
     omega arith
 
-pub callable_most : (f : FlatFunc) → callable_words f + 4 ≤ function_bulk f
-callable_most f =
-    let few = saves_few f in
+pub callable_most : (forgets : Forgets) (n : ℕ) (f : FlatFunc) → callable_words forgets n f + 4 ≤ function_bulk f
+callable_most forgets n f =
+    let few = saves_few forgets n f in
     let within = all_within f.body (nest f) in
     let words = within.words in
     let down = move_most ((2 ^ 32 - nest f) % 2 ^ 32) in
@@ -295,21 +295,21 @@ direct_most f =
     let stack = constant_most 2 (0x80300000 - nest f) in
     omega arith
 
-pub function_most : (b : Bool) (f : FlatFunc) → function_words b f ≤ function_bulk f
-function_most true f = callable_most f
-function_most false f = direct_most f
+pub function_most : (forgets : Forgets) (b : Bool) (n : ℕ) (f : FlatFunc) → function_words forgets b n f ≤ function_bulk f
+function_most forgets true n f = callable_most forgets n f
+function_most forgets false n f = direct_most f
 
-pub program_most : (called : ℕ → Bool) (n : ℕ) (rest : List FlatFunc) → program_words called n rest ≤ flat_bulk rest
-program_most called n [] = omega arith
-program_most called n (f ∷ rest) =
-    let here = function_most (called n) f in
-    let there = program_most called (n + 1) rest in
+pub program_most : (forgets : Forgets) (called : ℕ → Bool) (n : ℕ) (rest : List FlatFunc) → program_words forgets called n rest ≤ flat_bulk rest
+program_most forgets called n [] = omega arith
+program_most forgets called n (f ∷ rest) =
+    let here = function_most forgets (called n) n f in
+    let there = program_most forgets called (n + 1) rest in
     let added = sum_cons (function_bulk f) (map function_bulk rest) in
     omega arith
 
 -- where functions stand, by their words
-pub begins_are : (targets : Targets) (fs : List FlatFunc) (place n : ℕ) (rest : List FlatFunc) → begins (is_called fs) place n rest ≡ places targets forgets_none fs place n rest
-begins_are targets fs place n [] = refl
-begins_are targets fs place n (f ∷ rest) =
-    ap (λ q. place ∷ q) (ap (λ w. begins (is_called fs) (place + w) (n + 1) rest) (sym (function_length targets fs n f))
-    ∙ begins_are targets fs (place + length (function_items targets forgets_none fs n f)) (n + 1) rest)
+pub begins_are : (targets : Targets) (forgets : Forgets) (fs : List FlatFunc) (place n : ℕ) (rest : List FlatFunc) → begins forgets (is_called fs) place n rest ≡ places targets forgets fs place n rest
+begins_are targets forgets fs place n [] = refl
+begins_are targets forgets fs place n (f ∷ rest) =
+    ap (λ q. place ∷ q) (ap (λ w. begins forgets (is_called fs) (place + w) (n + 1) rest) (sym (function_length targets forgets fs n f))
+    ∙ begins_are targets forgets fs (place + length (function_items targets forgets fs n f)) (n + 1) rest)

@@ -14,7 +14,8 @@ use Rattle.br_flatimp.specs.Parts.{written, throughout, callees, own_callees}
 use Rattle.br_flatimp.specs.Liveness.{is_in}
 use Rattle.br_flatimp.specs.WellFormed.{IsRegisterForm, is_passing, values_fit, uses_registers}
 use Rattle.br_flatimp.specs.Sizes.{statement_bulk, nest, largest, flat_bulk}
-use Rattle.br_flatimp.specs.Runs.{Forgets, forgets_none, call_forgetting, call}
+use Rattle.br_flatimp.specs.Renaming.{ReadsNoForgotten}
+use Rattle.br_flatimp.specs.Runs.{Forgets, call_forgetting, call}
 use Rattle.br_machine.specs.Start.{Leftover, IsLeftover, IsInData, start}
 use Rattle.br_emit.specs.Reaches.{Reaches}
 use Rattle.br_emit.specs.Code.{Item, item_word, ItemFits, AllFit, Targets, changes, saved_bytes, callable_items, program_items, places, entry_place}
@@ -89,21 +90,23 @@ callee_need fs need n = of_function (slice_get fs n)
     of_function None = 0
     of_function (Some f) = largest (map need (callees f))
 
--- A program in register form whose code is that of its functions in order. `targets` are where the functions
--- that are called stand, and `need` is at least what a function saves, its buffers and the most that one of its
--- callees needs.
-pub record IsCodeOf (fs : List FlatFunc) (targets : Targets) (need : ℕ → ℕ) (code : List ℕ) : Type 0 where
+-- A program in register form whose code is that of its functions in order, where a call of g may leave the
+-- registers `forgets g` changed, and no function reads one that a call so changed. `targets` are where the
+-- functions that are called stand, and `need` is at least what a function saves, its buffers and the most that one
+-- of its callees needs.
+pub record IsCodeOf (fs : List FlatFunc) (targets : Targets) (forgets : Forgets) (need : ℕ → ℕ) (code : List ℕ) : Type 0 where
   pub form : IsRegisterForm fs
-  pub items : code ≡ map item_word (program_items targets forgets_none fs 0 fs)
-  pub fit : AllFit (program_items targets forgets_none fs 0 fs)
+  pub items : code ≡ map item_word (program_items targets forgets fs 0 fs)
+  pub fit : AllFit (program_items targets forgets fs 0 fs)
   pub few : length code ≤ most_words Two
-  pub aimed : (n place : ℕ) → slice_get (places targets forgets_none fs 0 0 fs) n ≡ Some place → targets n ≡ code_base Two + 4 * place
-  pub needs : (n : ℕ) (f : FlatFunc) → slice_get fs n ≡ Some f → saved_bytes forgets_none n f + nest f + callee_need fs need n ≤ need n
+  pub dead : ReadsNoForgotten forgets fs
+  pub aimed : (n place : ℕ) → slice_get (places targets forgets fs 0 0 fs) n ≡ Some place → targets n ≡ code_base Two + 4 * place
+  pub needs : (n : ℕ) (f : FlatFunc) → slice_get fs n ≡ Some f → saved_bytes forgets n f + nest f + callee_need fs need n ≤ need n
 
 -- An entry shows each call of its function: for all arguments, memory, answers, leftover contents and fuel,
 -- within the flat bulk of the program in steps for each unit of fuel and one more.
-abbrev pub ShowsFunction : List FlatFunc → Targets → (ℕ → ℕ) → List ℕ → ℕ → FlatFunc → ℕ → Type 0
-ShowsFunction fs targets need code n f place =
+abbrev pub ShowsFunction : List FlatFunc → Targets → Forgets → (ℕ → ℕ) → List ℕ → ℕ → FlatFunc → ℕ → Type 0
+ShowsFunction fs targets forgets need code n f place =
     (fuel : ℕ) (args : List ℕ) → length args ≡ length f.args → AreWords args
     → (m : Memory) → IsInData m → (answers : List ℕ) → AreWords answers → (j : Leftover) → IsLeftover j
-    → EntryShown code (4 * entry_place targets forgets_none fs place n f) args m answers j fuel (need n) ((fuel + 1) * flat_bulk fs) (λ choices. call fs n args m answers choices fuel)
+    → EntryShown code (4 * entry_place targets forgets fs place n f) args m answers j fuel (need n) ((fuel + 1) * flat_bulk fs) (λ choices. call fs n args m answers choices fuel)

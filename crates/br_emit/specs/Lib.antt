@@ -7,3 +7,4 @@ pub mod Ready
 pub mod Marks
 pub mod Written
 pub mod Emitted
+pub mod Registers

@@ -6,7 +6,7 @@ use Rattle.br_flatimp.specs.declared.program.Stmt.TheOpen.{Stmt-F}
 use Rattle.br_flatimp.specs.declared.program.Stmt.TheFolds.{fold-Stmt}
 use Rattle.br_flatimp.specs.declared.program.FlatFunc.{FlatFunc}
 use Rattle.br_flatimp.specs.Sizes.{words_for, nest}
-use Rattle.br_flatimp.specs.Runs.{forgets_none}
+use Rattle.br_flatimp.specs.Runs.{Forgets}
 use Rattle.br_rv32im.specs.declared.instruction.Ins.TheVariants.{Imm}
 use Rattle.br_rv32im.specs.declared.instruction.ImmOp.TheVariants.{Addi}
 use Rattle.br_emit.specs.Code.{Item, Branching, otherwise, constant_items, copy_items, op_items, place_items, over_items, skip_items, saves, save_items, restore_items, move_items, exit_items, stack_items, all_items, Does, Targets}
@@ -127,31 +127,31 @@ framed_items targets rs body buffers down bytes =
     ++ (move_items buffers
     ++ (restore_items 1 rs ++ exit_items bytes)))))
 
--- the words of a function's code, where it is called, and its entry comes after it
-abbrev pub callable_words : FlatFunc → ℕ
-callable_words f =
-    2 * length (saves forgets_none 0 f) + length (move_items ((2 ^ 32 - nest f) % 2 ^ 32)) + (sized_all f.body (nest f)).words
+-- the words of the code of the function numbered n, where it is called, and its entry comes after it
+abbrev pub callable_words : Forgets → ℕ → FlatFunc → ℕ
+callable_words forgets n f =
+    2 * length (saves forgets n f) + length (move_items ((2 ^ 32 - nest f) % 2 ^ 32)) + (sized_all f.body (nest f)).words
     + length (move_items (nest f)) + 5
 
 -- the words of the code of a function that nobody calls
 abbrev pub direct_words : FlatFunc → ℕ
 direct_words f = length (stack_items f) + (sized_all f.body (nest f)).words + 1
 
-abbrev pub function_words : Bool → FlatFunc → ℕ
-function_words called f = if called then callable_words f + 4 else direct_words f
+abbrev pub function_words : Forgets → Bool → ℕ → FlatFunc → ℕ
+function_words forgets called n f = if called then callable_words forgets n f + 4 else direct_words f
 
 -- where functions stand one after another, in words
-abbrev pub begins : (ℕ → Bool) → ℕ → ℕ → List FlatFunc → List ℕ
-begins called place n [] = []
-begins called place n (f ∷ rest) = place ∷ begins called (place + function_words (called n) f) (n + 1) rest
+abbrev pub begins : Forgets → (ℕ → Bool) → ℕ → ℕ → List FlatFunc → List ℕ
+begins forgets called place n [] = []
+begins forgets called place n (f ∷ rest) = place ∷ begins forgets called (place + function_words forgets (called n) n f) (n + 1) rest
 
 -- where their entries stand
-abbrev pub entries : (ℕ → Bool) → ℕ → ℕ → List FlatFunc → List ℕ
-entries called place n [] = []
-entries called place n (f ∷ rest) =
-    (if called n then place + callable_words f else place) ∷ entries called (place + function_words (called n) f) (n + 1) rest
+abbrev pub entries : Forgets → (ℕ → Bool) → ℕ → ℕ → List FlatFunc → List ℕ
+entries forgets called place n [] = []
+entries forgets called place n (f ∷ rest) =
+    (if called n then place + callable_words forgets n f else place) ∷ entries forgets called (place + function_words forgets (called n) n f) (n + 1) rest
 
 -- the words of all functions
-abbrev pub program_words : (ℕ → Bool) → ℕ → List FlatFunc → ℕ
-program_words called n [] = 0
-program_words called n (f ∷ rest) = function_words (called n) f + program_words called (n + 1) rest
+abbrev pub program_words : Forgets → (ℕ → Bool) → ℕ → List FlatFunc → ℕ
+program_words forgets called n [] = 0
+program_words forgets called n (f ∷ rest) = function_words forgets (called n) n f + program_words forgets called (n + 1) rest

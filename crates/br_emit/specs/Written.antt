@@ -6,20 +6,21 @@ use Rattle.br_words.specs.Layout.{code_base, most_words}
 use Rattle.br_flatimp.specs.declared.program.FlatFunc.{FlatFunc}
 use Rattle.br_flatimp.specs.Parts.{throughout}
 use Rattle.br_flatimp.specs.Sizes.{nest, flat_bulk}
-use Rattle.br_flatimp.specs.Runs.{forgets_none}
+use Rattle.br_flatimp.specs.Runs.{Forgets}
 use Rattle.br_emit.specs.Code.{Item, Targets, callable_items, entry_items, direct_items, is_called}
 use Rattle.br_emit.specs.Sizes.{sized_all, begins, entries}
 use Rattle.br_emit.specs.Ready.{is_encodable}
 
--- the code of a function and its entry, or its entry alone
-abbrev pub one_items : Targets → Bool → ℕ → FlatFunc → List Item
-one_items targets called target f =
-    if called then callable_items targets forgets_none 0 f ++ entry_items target else direct_items targets f
+-- the code of the function numbered n and its entry, or its entry alone
+abbrev pub one_items : Targets → Forgets → Bool → ℕ → ℕ → FlatFunc → List Item
+one_items targets forgets called n target f =
+    if called then callable_items targets forgets n f ++ entry_items target else direct_items targets f
 
 -- functions from number n on, one after another
-abbrev pub rest_items : Targets → (ℕ → Bool) → ℕ → List FlatFunc → List Item
-rest_items targets called n [] = []
-rest_items targets called n (f ∷ rest) = one_items targets (called n) (targets n) f ++ rest_items targets called (n + 1) rest
+abbrev pub rest_items : Targets → Forgets → (ℕ → Bool) → ℕ → List FlatFunc → List Item
+rest_items targets forgets called n [] = []
+rest_items targets forgets called n (f ∷ rest) =
+    one_items targets forgets (called n) n (targets n) f ++ rest_items targets forgets called (n + 1) rest
 
 -- the flag of a number
 abbrev pub flagged : List Bool → ℕ → Bool
@@ -40,12 +41,12 @@ abbrev pub offset_of : ℕ → ℕ
 offset_of place = 4 * place
 
 -- the addresses at which the functions of a program stand
-abbrev pub addresses : List FlatFunc → List ℕ
-addresses fs = map address_of (begins (is_called fs) 0 0 fs)
+abbrev pub addresses : Forgets → List FlatFunc → List ℕ
+addresses forgets fs = map address_of (begins forgets (is_called fs) 0 0 fs)
 
 -- the offsets of their entries
-abbrev pub entry_offsets : List FlatFunc → List ℕ
-entry_offsets fs = map offset_of (entries (is_called fs) 0 0 fs)
+abbrev pub entry_offsets : Forgets → List FlatFunc → List ℕ
+entry_offsets forgets fs = map offset_of (entries forgets (is_called fs) 0 0 fs)
 
 -- the flags say which functions are called
 abbrev pub AreCalled : List Bool → List FlatFunc → Type 0

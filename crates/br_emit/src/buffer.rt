@@ -18,9 +18,10 @@ pub struct CodeBuffer {
     pub(crate) offsets: Numbers,
     // A call takes no room: where each function stands is known before a call is written.
     calls: u32,
-    // What is found before a function is written: which functions are called, where they stand, and how
-    // long the parts of one function are.
+    // What is found before a function is written: which functions are called, what calls of them may
+    // change, where they stand, and how long the parts of one function are.
     pub(crate) called: Vec<bool>,
+    pub(crate) forgotten: Vec<u32>,
     pub(crate) targets: Numbers,
     pub(crate) lengths: Numbers,
 }
@@ -40,7 +41,7 @@ impl Model for CodeBuffer {
     } };
 
     // What words and functions have room for, there is room to find.
-    ghost invariant = { λ b. (b.code.room ≤ b.lengths.room + length b.lengths.numbers) × (b.offsets.room ≤ vec_capacity b.called) × (b.offsets.room ≤ b.targets.room + length b.targets.numbers) };
+    ghost invariant = { λ b. (b.code.room ≤ b.lengths.room + length b.lengths.numbers) × (b.offsets.room ≤ vec_capacity b.called) × (b.offsets.room ≤ vec_capacity b.forgotten) × (b.offsets.room ≤ b.targets.room + length b.targets.numbers) };
 }
 
 impl CodeBuffer {
@@ -60,6 +61,7 @@ impl CodeBuffer {
         let code = Code::with_room(alloc, words)?;
         let offsets = Numbers::with_room(alloc, functions as usize)?;
         let called = Vec::with_capacity(alloc, functions as usize)?;
+        let forgotten = Vec::with_capacity(alloc, functions as usize)?;
         let targets = Numbers::with_room(alloc, functions as usize)?;
         let lengths = Numbers::with_room(alloc, words as usize)?;
         Ok(CodeBuffer {
@@ -67,6 +69,7 @@ impl CodeBuffer {
             offsets,
             calls,
             called,
+            forgotten,
             targets,
             lengths,
         })

@@ -1,11 +1,10 @@
 // Which functions of a program are called.
 
-ghost use Rattle.std.specs.Prelude.{◌≡◌, ◌≤◌, ◌++◌, false, replicate, length, vec_capacity};
+ghost use Rattle.std.specs.Prelude.{◌≡◌, ◌≤◌, ◌++◌, ◌∷◌, [], false, replicate, length, vec_capacity};
 ghost use Rattle.std.specs.List.{flat_map};
 ghost use Rattle.br_flatimp.specs.Parts.{gathered, own_callees, callees};
 ghost use Rattle.br_emit.specs.Marks.{marked};
 
-use crate::registers::mark;
 use br_flatimp::{FlatFunc, Stmt};
 
 /// A flag for each function, which says whether a function calls it, in place of those before.
@@ -82,5 +81,14 @@ fn mark_called(flags: &mut [bool], s: &Stmt)
         | Stmt::Table(_, _, _, _)
         | Stmt::Read(_, _)
         | Stmt::Write(_, _) => {}
+    }
+}
+
+// Sets the flag of a number, where it has one.
+fn mark(flags: &mut [bool], x: u32)
+    ensures { flags.new ≡ marked flags.old (x ∷ []) }
+{
+    if (x as usize) < flags.len() {
+        flags[x as usize] = true;
     }
 }

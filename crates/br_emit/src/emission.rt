@@ -5,16 +5,15 @@ ghost use Rattle.std.specs.List.{AllByRecursion};
 ghost use Rattle.br_base.specs.Name.{IsName};
 ghost use Rattle.br_words.specs.declared.layout.Layout.TheVariants.{Two};
 ghost use Rattle.br_words.specs.Layout.{most_words, most_stack};
-ghost use Rattle.br_flatimp.specs.Runs.{forgets_none};
 ghost use Rattle.br_flatimp.specs.Sizes.{flat_bulk};
 ghost use Rattle.br_flatimp.specs.WellFormed.{IsRegisterForm};
-ghost use Rattle.br_emit.specs.Code.{AllFit, item_word, program_items};
 ghost use Rattle.br_emit.specs.Emitted.{AreNeeds, AllDescribed, IsOffset, ShowsProgram, HasFewNames, entry_of, entries_of};
-ghost use Rattle.br_emit.specs.Ready.{aimed};
-ghost use Rattle.br_emit.specs.Written.{CanWrite, addresses, entry_offsets};
+ghost use Rattle.br_emit.specs.Registers.{IsWritten};
+ghost use Rattle.br_emit.specs.Written.{CanWrite};
 
 use crate::buffer::CodeBuffer;
 use crate::called::flag_called;
+use crate::forgotten::{fill, find_forgotten};
 use crate::laws::code_shows_its_program;
 use crate::places::place_functions;
 use crate::programs::write_functions;
@@ -82,22 +81,31 @@ fn write_into(funcs: &[FlatFunc], code: &mut CodeBuffer)
     requires no_offsets { code.old.offsets ≡ [] }
     requires word_room { flat_bulk funcs.now ≤ code.old.word_room }
     requires function_room { length funcs.now ≤ code.old.function_room }
-    ensures code { code.new.words ≡ map item_word (program_items (aimed (addresses funcs.now)) forgets_none funcs.now 0 funcs.now) }
-    ensures fit { AllFit (program_items (aimed (addresses funcs.now)) forgets_none funcs.now 0 funcs.now) }
-    ensures offsets { code.new.offsets ≡ entry_offsets funcs.now }
+    ensures { IsWritten funcs.now code.new.words code.new.offsets }
 {
     code.targets.clear();
     flag_called(&mut code.called, funcs);
     let called = code.called.as_slice();
+    fill(&mut code.forgotten, funcs.len());
+    let sets = code.forgotten.as_mut_slice();
+    find_forgotten(sets, funcs);
     place_functions(
         &mut code.targets,
         &mut code.offsets,
         &mut code.lengths,
+        sets,
         called,
         funcs,
     );
     let targets = code.targets.as_slice();
-    write_functions(&mut code.code, targets, &mut code.lengths, called, funcs);
+    write_functions(
+        &mut code.code,
+        targets,
+        &mut code.lengths,
+        sets,
+        called,
+        funcs,
+    );
 }
 
 // A buffer with room for the code of functions.

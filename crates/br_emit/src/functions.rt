@@ -4,12 +4,12 @@ ghost use Rattle.std.specs.Prelude.{◌≡◌, ◌+◌, ◌-◌, ◌*◌, ◌<�
 ghost use Rattle.std.specs.List.{list_all};
 ghost use Rattle.br_flatimp.specs.Parts.{throughout};
 ghost use Rattle.br_flatimp.specs.Sizes.{largest, statement_nest, nest};
-ghost use Rattle.br_flatimp.specs.Runs.{forgets_none};
 ghost use Rattle.br_rv32im.specs.declared.instruction.Ins.TheVariants.{Ecall};
 ghost use Rattle.br_words.specs.Layout.{stack_end};
 ghost use Rattle.br_emit.specs.Code.{AllFit, Does, all_items, constant_items, callable_items, direct_items};
 ghost use Rattle.br_emit.specs.Sizes.{sized_all, framed_items, callable_words, direct_words};
 ghost use Rattle.br_emit.specs.Buffer.{appended, noted};
+ghost use Rattle.br_emit.specs.Registers.{forgets_of};
 ghost use Rattle.br_emit.specs.Ready.{Ready, InReach, is_encodable, aimed};
 
 use crate::code::Code;
@@ -70,17 +70,17 @@ fn nest_of(s: &Stmt) -> u32
     }
 }
 
-/// The words of the code of a function that is called, up to its entry.
+/// The words of the code of the function numbered n, where it is called, up to its entry.
 #[tactic(auto, using(crate::proofs::Saving::saves_few))]
-pub fn callable_words(lengths: &mut Numbers, f: &FlatFunc) -> u32
+pub fn callable_words(lengths: &mut Numbers, sets: &[u32], n: usize, f: &FlatFunc) -> u32
     requires nest { nest f.now ≤ 1048576 }
     requires room { length (sized_all f.now.body (nest f.now)).parts ≤ lengths.old.room }
-    requires few { callable_words f.now ≤ 1048576 }
-    ensures words { result ≡ callable_words f.now }
+    requires few { callable_words (forgets_of sets.now) n f.now ≤ 1048576 }
+    ensures words { result ≡ callable_words (forgets_of sets.now) n f.now }
     ensures lengths { lengths.new ≡ noted lengths.old (sized_all f.now.body (nest f.now)).parts }
 {
     let nest = nest_all(f.body.as_slice());
-    let saved = saved(f).as_slice().len() as u32;
+    let saved = saved(sets, n, f).as_slice().len() as u32;
     let body = measure_all(lengths, f.body.as_slice(), nest);
     2 * saved + move_words(0u32.wrapping_sub(nest)) + body + move_words(nest) + 5
 }
@@ -98,18 +98,24 @@ pub fn direct_words(lengths: &mut Numbers, f: &FlatFunc) -> u32
     constant_words(STACK_POINTER, STACK_END - nest) + body + 1
 }
 
-/// The code of a function that is called, given the lengths of the parts in it.
-#[tactic(auto, using(crate::proofs::Saving::saves_small, crate::proofs::Saving::saves_few))]
-pub fn callable(code: &mut Code, targets: &[u32], lengths: &[u32], f: &FlatFunc)
+/// The code of the function numbered n, where it is called, given the lengths of the parts in it.
+pub fn callable(
+    code: &mut Code,
+    targets: &[u32],
+    lengths: &[u32],
+    sets: &[u32],
+    n: usize,
+    f: &FlatFunc,
+)
     requires nest { nest f.now ≤ 1048576 }
     requires targets { (g : ℕ) → InReach (aimed targets.now g) }
     requires form { IsTrue (list_all (throughout is_encodable) f.now.body) }
-    requires ready { Ready (callable_items (aimed targets.now) forgets_none 0 f.now) (sized_all f.now.body (nest f.now)).parts code.old lengths.now }
-    ensures code { code.new ≡ appended code.old (callable_items (aimed targets.now) forgets_none 0 f.now) }
-    ensures fit { AllFit (callable_items (aimed targets.now) forgets_none 0 f.now) }
+    requires ready { Ready (callable_items (aimed targets.now) (forgets_of sets.now) n f.now) (sized_all f.now.body (nest f.now)).parts code.old lengths.now }
+    ensures code { code.new ≡ appended code.old (callable_items (aimed targets.now) (forgets_of sets.now) n f.now) }
+    ensures fit { AllFit (callable_items (aimed targets.now) (forgets_of sets.now) n f.now) }
 {
     let nest = nest_all(f.body.as_slice());
-    let saved = saved(f);
+    let saved = saved(sets, n, f);
     let bytes = 4 * (1 + saved.as_slice().len() as u32);
     let down = 0u32.wrapping_sub(nest);
     framed(

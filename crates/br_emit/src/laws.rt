@@ -5,11 +5,12 @@ ghost use Rattle.std.specs.Prelude.{◌≡◌, ℕ, List, ◌+◌, ◌-◌, ◌�
 ghost use Rattle.br_words.specs.declared.layout.Layout.TheVariants.{Two};
 ghost use Rattle.br_words.specs.Layout.{most_words, most_stack, stack_end};
 ghost use Rattle.br_flatimp.specs.declared.program.FlatFunc.{FlatFunc};
-ghost use Rattle.br_flatimp.specs.Runs.{forgets_none};
+ghost use Rattle.br_flatimp.specs.Runs.{Forgets};
 ghost use Rattle.br_flatimp.specs.Sizes.{nest};
 ghost use Rattle.br_emit.specs.Code.{Targets, direct_items, entry_items, places};
 ghost use Rattle.br_emit.specs.Laid.{Laid, Placed, ShowsCalls, IsCodeOf, ShowsFunction};
 
+use br_flatimp::forgetting_refines;
 use br_machine::steps_make_machines;
 use br_rv32im::instructions_and_words_match;
 
@@ -44,11 +45,12 @@ pub fn called_entries_show_calls()
 /// the entry of each function that needs no more than the stack has shows each call of it, within the
 /// program's flat bulk in steps for each unit of fuel and one more.
 pub fn code_shows_its_program()
-    ensures { (fs : List FlatFunc) (targets : Targets) (need : ℕ → ℕ) (code : List ℕ) →
-        IsCodeOf fs targets need code → (n : ℕ) (f : FlatFunc) (place : ℕ) →
-        slice_get fs n ≡ Some f → slice_get (places targets forgets_none fs 0 0 fs) n ≡ Some place →
-        need n ≤ most_stack → ShowsFunction fs targets need code n f place }
+    ensures { (fs : List FlatFunc) (targets : Targets) (forgets : Forgets) (need : ℕ → ℕ) (code : List ℕ) →
+        IsCodeOf fs targets forgets need code → (n : ℕ) (f : FlatFunc) (place : ℕ) →
+        slice_get fs n ≡ Some f → slice_get (places targets forgets fs 0 0 fs) n ≡ Some place →
+        need n ≤ most_stack → ShowsFunction fs targets forgets need code n f place }
 {
+    forgetting_refines();
     instructions_and_words_match();
     steps_make_machines();
 }

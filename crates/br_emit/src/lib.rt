@@ -10,9 +10,12 @@
 
 mod buffer;
 mod called;
+mod changing;
 mod code;
 mod constant_tables;
 mod emission;
+mod flow;
+mod forgotten;
 mod framing;
 mod functions;
 mod jumps;
@@ -23,6 +26,7 @@ mod places;
 mod programs;
 mod registers;
 mod room;
+mod sets;
 mod straight;
 mod writing;
 

@@ -3,6 +3,7 @@
 ghost use Rattle.std.specs.Prelude.{◌≡◌, ◌+◌, ◌*◌, ◌≤◌, ◌∷◌, [], map, length, if◌then◌else◌};
 ghost use Rattle.std.specs.List.{AllByRecursion};
 ghost use Rattle.br_emit.specs.Sizes.{callable_words, function_words, begins, entries, program_words};
+ghost use Rattle.br_emit.specs.Registers.{forgets_of};
 ghost use Rattle.br_emit.specs.Buffer.{noted};
 ghost use Rattle.br_emit.specs.Written.{flagged, Writable, address_of, offset_of};
 
@@ -15,29 +16,31 @@ use br_words::Layout;
 // The words of a function's entry where the function is called.
 const ENTRY_WORDS: u32 = 4;
 
-// The address of a function that stands at a place in the code, and the offset of its entry. The answer
+// The address of the function numbered n, which stands at a place in the code, and the offset of its entry. The answer
 // is the place after both.
 fn place_function(
     targets: &mut Numbers,
     offsets: &mut Numbers,
     lengths: &mut Numbers,
+    sets: &[u32],
     called: bool,
+    n: usize,
     place: u32,
     f: &FlatFunc,
 ) -> u32
     requires targets { 1 ≤ targets.old.room }
     requires offsets { 1 ≤ offsets.old.room }
     requires writable { Writable (lengths.old.room + length lengths.old.numbers) f.now }
-    requires few { place + function_words called f.now ≤ 1048576 }
-    ensures place { result ≡ place + function_words called f.now }
+    requires few { place + function_words (forgets_of sets.now) called n f.now ≤ 1048576 }
+    ensures place { result ≡ place + function_words (forgets_of sets.now) called n f.now }
     ensures targets { targets.new ≡ noted targets.old (address_of place ∷ []) }
-    ensures offsets { offsets.new ≡ noted offsets.old (offset_of (if called then place + callable_words f.now else place) ∷ []) }
+    ensures offsets { offsets.new ≡ noted offsets.old (offset_of (if called then place + callable_words (forgets_of sets.now) n f.now else place) ∷ []) }
     ensures kept { lengths.new.room + length lengths.new.numbers ≡ lengths.old.room + length lengths.old.numbers }
 {
     lengths.clear();
     targets.push(Layout::Two.code_base() + 4 * place);
     if called {
-        let words = callable_words(lengths, f);
+        let words = callable_words(lengths, sets, n, f);
         offsets.push(4 * (place + words));
         place + words + ENTRY_WORDS
     } else {
@@ -47,27 +50,37 @@ fn place_function(
 }
 
 /// The addresses of functions that stand one after another and the offsets of their entries, given
-/// which of them are called. The answer is how many words all of them take.
+/// what calls may change and which of them are called. The answer is how many words all of them take.
 pub fn place_functions(
     targets: &mut Numbers,
     offsets: &mut Numbers,
     lengths: &mut Numbers,
+    sets: &[u32],
     called: &[bool],
     funcs: &[FlatFunc],
 ) -> u32
     requires targets { length funcs.now ≤ targets.old.room }
     requires offsets { length funcs.now ≤ offsets.old.room }
     requires writable { AllByRecursion (Writable (lengths.old.room + length lengths.old.numbers)) funcs.now }
-    requires few { program_words (flagged called.now) 0 funcs.now ≤ 1048576 }
-    ensures words { result ≡ program_words (flagged called.now) 0 funcs.now }
-    ensures targets { targets.new ≡ noted targets.old (map address_of (begins (flagged called.now) 0 0 funcs.now)) }
-    ensures offsets { offsets.new ≡ noted offsets.old (map offset_of (entries (flagged called.now) 0 0 funcs.now)) }
+    requires few { program_words (forgets_of sets.now) (flagged called.now) 0 funcs.now ≤ 1048576 }
+    ensures words { result ≡ program_words (forgets_of sets.now) (flagged called.now) 0 funcs.now }
+    ensures targets { targets.new ≡ noted targets.old (map address_of (begins (forgets_of sets.now) (flagged called.now) 0 0 funcs.now)) }
+    ensures offsets { offsets.new ≡ noted offsets.old (map offset_of (entries (forgets_of sets.now) (flagged called.now) 0 0 funcs.now)) }
     ensures kept { lengths.new.room + length lengths.new.numbers ≡ lengths.old.room + length lengths.old.numbers }
 {
     let mut place = 0u32;
     let mut n = 0usize;
     for f in funcs {
-        place = place_function(targets, offsets, lengths, is_flagged(called, n), place, f);
+        place = place_function(
+            targets,
+            offsets,
+            lengths,
+            sets,
+            is_flagged(called, n),
+            n,
+            place,
+            f,
+        );
         n += 1;
     }
     place

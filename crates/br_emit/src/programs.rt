@@ -4,10 +4,10 @@ ghost use Rattle.std.specs.Prelude.{◌≡◌, ◌+◌, ◌≤◌, ◌++◌, ℕ
 ghost use Rattle.std.specs.List.{AllByRecursion, list_all};
 ghost use Rattle.br_flatimp.specs.Parts.{throughout};
 ghost use Rattle.br_flatimp.specs.Sizes.{nest};
-ghost use Rattle.br_flatimp.specs.Runs.{forgets_none};
 ghost use Rattle.br_emit.specs.Code.{AllFit, callable_items, entry_items};
 ghost use Rattle.br_emit.specs.Sizes.{sized_all};
 ghost use Rattle.br_emit.specs.Buffer.{appended};
+ghost use Rattle.br_emit.specs.Registers.{forgets_of};
 ghost use Rattle.br_emit.specs.Ready.{Ready, InReach, is_encodable, aimed};
 ghost use Rattle.br_emit.specs.Written.{one_items, rest_items, flagged, Writable};
 
@@ -30,41 +30,51 @@ fn measure_function(lengths: &mut Numbers, f: &FlatFunc)
     measure_all(lengths, f.body.as_slice(), nest_all(f.body.as_slice()));
 }
 
-// The code of a function that is called, and its entry.
-fn write_called(code: &mut Code, targets: &[u32], lengths: &[u32], target: u32, f: &FlatFunc)
+// The code of the function numbered n, where it is called, and its entry.
+fn write_called(
+    code: &mut Code,
+    targets: &[u32],
+    lengths: &[u32],
+    sets: &[u32],
+    n: usize,
+    target: u32,
+    f: &FlatFunc,
+)
     requires targets { (g : ℕ) → InReach (aimed targets.now g) }
     requires target { InReach target }
     requires nest { nest f.now ≤ 1048576 }
     requires form { IsTrue (list_all (throughout is_encodable) f.now.body) }
-    requires ready { Ready (callable_items (aimed targets.now) forgets_none 0 f.now ++ entry_items target) (sized_all f.now.body (nest f.now)).parts code.old lengths.now }
-    ensures code { code.new ≡ appended code.old (callable_items (aimed targets.now) forgets_none 0 f.now ++ entry_items target) }
-    ensures fit { AllFit (callable_items (aimed targets.now) forgets_none 0 f.now ++ entry_items target) }
+    requires ready { Ready (callable_items (aimed targets.now) (forgets_of sets.now) n f.now ++ entry_items target) (sized_all f.now.body (nest f.now)).parts code.old lengths.now }
+    ensures code { code.new ≡ appended code.old (callable_items (aimed targets.now) (forgets_of sets.now) n f.now ++ entry_items target) }
+    ensures fit { AllFit (callable_items (aimed targets.now) (forgets_of sets.now) n f.now ++ entry_items target) }
 {
-    callable(code, targets, lengths, f);
+    callable(code, targets, lengths, sets, n, f);
     entry(code, target);
 }
 
-// The code of a function and its entry, or its entry alone where nobody calls it.
+// The code of the function numbered n and its entry, or its entry alone where nobody calls it.
 fn write_function(
     code: &mut Code,
     targets: &[u32],
     lengths: &mut Numbers,
+    sets: &[u32],
     called: bool,
+    n: usize,
     target: u32,
     f: &FlatFunc,
 )
     requires targets { (g : ℕ) → InReach (aimed targets.now g) }
     requires target { InReach target }
     requires writable { Writable (lengths.old.room + length lengths.old.numbers) f.now }
-    requires room { length (one_items (aimed targets.now) called target f.now) ≤ code.old.room }
-    requires few { length (one_items (aimed targets.now) called target f.now) ≤ 1048576 }
-    ensures code { code.new ≡ appended code.old (one_items (aimed targets.now) called target f.now) }
-    ensures fit { AllFit (one_items (aimed targets.now) called target f.now) }
+    requires room { length (one_items (aimed targets.now) (forgets_of sets.now) called n target f.now) ≤ code.old.room }
+    requires few { length (one_items (aimed targets.now) (forgets_of sets.now) called n target f.now) ≤ 1048576 }
+    ensures code { code.new ≡ appended code.old (one_items (aimed targets.now) (forgets_of sets.now) called n target f.now) }
+    ensures fit { AllFit (one_items (aimed targets.now) (forgets_of sets.now) called n target f.now) }
     ensures kept { lengths.new.room + length lengths.new.numbers ≡ lengths.old.room + length lengths.old.numbers }
 {
     measure_function(lengths, f);
     if called {
-        write_called(code, targets, lengths.as_slice(), target, f);
+        write_called(code, targets, lengths.as_slice(), sets, n, target, f);
     } else {
         direct(code, targets, lengths.as_slice(), f);
     }
@@ -90,20 +100,22 @@ fn target_of(targets: &[u32], n: usize) -> u32
     }
 }
 
-/// The code of functions, one after another, given where each stands and which of them are called.
+/// The code of functions, one after another, given where each stands, what calls may change, and which of
+/// them are called.
 pub fn write_functions(
     code: &mut Code,
     targets: &[u32],
     lengths: &mut Numbers,
+    sets: &[u32],
     called: &[bool],
     funcs: &[FlatFunc],
 )
     requires targets { (g : ℕ) → InReach (aimed targets.now g) }
     requires writable { AllByRecursion (Writable (lengths.old.room + length lengths.old.numbers)) funcs.now }
-    requires room { length (rest_items (aimed targets.now) (flagged called.now) 0 funcs.now) ≤ code.old.room }
-    requires few { length (rest_items (aimed targets.now) (flagged called.now) 0 funcs.now) ≤ 1048576 }
-    ensures code { code.new ≡ appended code.old (rest_items (aimed targets.now) (flagged called.now) 0 funcs.now) }
-    ensures fit { AllFit (rest_items (aimed targets.now) (flagged called.now) 0 funcs.now) }
+    requires room { length (rest_items (aimed targets.now) (forgets_of sets.now) (flagged called.now) 0 funcs.now) ≤ code.old.room }
+    requires few { length (rest_items (aimed targets.now) (forgets_of sets.now) (flagged called.now) 0 funcs.now) ≤ 1048576 }
+    ensures code { code.new ≡ appended code.old (rest_items (aimed targets.now) (forgets_of sets.now) (flagged called.now) 0 funcs.now) }
+    ensures fit { AllFit (rest_items (aimed targets.now) (forgets_of sets.now) (flagged called.now) 0 funcs.now) }
     ensures kept { lengths.new.room + length lengths.new.numbers ≡ lengths.old.room + length lengths.old.numbers }
 {
     let mut n = 0usize;
@@ -112,7 +124,9 @@ pub fn write_functions(
             code,
             targets,
             lengths,
+            sets,
             is_flagged(called, n),
+            n,
             target_of(targets, n),
             f,
         );

@@ -1,5 +1,6 @@
-use Rattle.std.proofs.Common.{◌≡◌, ◌+◌, ◌++◌, [], map, length, ap, subst, ◌∙◌, arith}
+use Rattle.std.proofs.Common.{◌≡◌, ◌+◌, ◌++◌, [], map, length, sym, ap, subst, ◌∙◌, arith}
 use Rattle.br_emit.specs.Code.{AllFit, item_word}
+use Rattle.br_emit.specs.Registers.{forgets_of}
 use Rattle.br_emit.specs.Sizes.{begins, entries}
 use Rattle.br_emit.specs.Ready.{aimed}
 use Rattle.br_emit.specs.Written.{rest_items, flagged, address_of, offset_of}
@@ -9,7 +10,7 @@ use Rattle.br_emit.proofs.emission.write_into.Goals as goal
 
 pub place_functions-requires-clause-targets : goal.place_functions-requires-clause-targets
 place_functions-requires-clause-targets c =
-    let room = c.code.invariant.2 in
+    let room = c.code.invariant.3 in
     let enough = c.requires.function_room in
     let same = ap (λ v. v.function_room) c.code.view_is in
     let cleared = ap (λ q. q.room) c.clear.ensures in
@@ -31,16 +32,16 @@ pub place_functions-requires-clause-few : goal.place_functions-requires-clause-f
 place_functions-requires-clause-few c =
     let fs = c.args.funcs.now in
     let flags = c.as_slice-called.result.now in
-    words_few fs flags 1048576 (flags_are fs flags (c.as_slice-called.ensures.value ∙ c.flag_called.ensures.flags)) c.requires.can_write.few
+    words_few (forgets_of c.find_forgotten.new.sets) fs flags 1048576 (flags_are fs flags (c.as_slice-called.ensures.value ∙ c.flag_called.ensures.flags)) c.requires.can_write.few
 
 pub write_functions-requires-clause-targets : goal.write_functions-requires-clause-targets
 write_functions-requires-clause-targets c =
     let fs = c.args.funcs.now in
     let flags = c.as_slice-called.result.now in
     let called = flags_are fs flags (c.as_slice-called.ensures.value ∙ c.flag_called.ensures.flags) in
-    let more = map address_of (begins (flagged flags) 0 0 fs) in
+    let more = map address_of (begins (forgets_of c.find_forgotten.new.sets) (flagged flags) 0 0 fs) in
     let targets = c.as_slice-targets.ensures ∙ ap (λ q. q.numbers) c.place_functions.ensures.targets ∙ ap (λ q. q.numbers ++ more) c.clear.ensures in
-    (plan fs flags c.as_slice-targets.result.now called c.requires.can_write.few targets).reach
+    (plan (forgets_of c.find_forgotten.new.sets) fs flags c.as_slice-targets.result.now called c.requires.can_write.few targets).reach
 
 pub write_functions-requires-clause-writable : goal.write_functions-requires-clause-writable
 write_functions-requires-clause-writable c =
@@ -54,10 +55,10 @@ write_functions-requires-clause-room c =
     let fs = c.args.funcs.now in
     let flags = c.as_slice-called.result.now in
     let called = flags_are fs flags (c.as_slice-called.ensures.value ∙ c.flag_called.ensures.flags) in
-    let more = map address_of (begins (flagged flags) 0 0 fs) in
+    let more = map address_of (begins (forgets_of c.find_forgotten.new.sets) (flagged flags) 0 0 fs) in
     let targets = c.as_slice-targets.ensures ∙ ap (λ q. q.numbers) c.place_functions.ensures.targets ∙ ap (λ q. q.numbers ++ more) c.clear.ensures in
-    let words = (plan fs flags c.as_slice-targets.result.now called c.requires.can_write.few targets).words in
-    let few = words_few fs flags c.args.code.now.word_room called c.requires.word_room in
+    let words = (plan (forgets_of c.find_forgotten.new.sets) fs flags c.as_slice-targets.result.now called c.requires.can_write.few targets).words in
+    let few = words_few (forgets_of c.find_forgotten.new.sets) fs flags c.args.code.now.word_room called c.requires.word_room in
     let same = ap (λ v. v.word_room) c.code.view_is in
     omega (arith, words, few, same)
 
@@ -66,57 +67,52 @@ write_functions-requires-clause-few c =
     let fs = c.args.funcs.now in
     let flags = c.as_slice-called.result.now in
     let called = flags_are fs flags (c.as_slice-called.ensures.value ∙ c.flag_called.ensures.flags) in
-    let more = map address_of (begins (flagged flags) 0 0 fs) in
+    let more = map address_of (begins (forgets_of c.find_forgotten.new.sets) (flagged flags) 0 0 fs) in
     let targets = c.as_slice-targets.ensures ∙ ap (λ q. q.numbers) c.place_functions.ensures.targets ∙ ap (λ q. q.numbers ++ more) c.clear.ensures in
-    let words = (plan fs flags c.as_slice-targets.result.now called c.requires.can_write.few targets).words in
-    let few = words_few fs flags 1048576 called c.requires.can_write.few in
+    let words = (plan (forgets_of c.find_forgotten.new.sets) fs flags c.as_slice-targets.result.now called c.requires.can_write.few targets).words in
+    let few = words_few (forgets_of c.find_forgotten.new.sets) fs flags 1048576 called c.requires.can_write.few in
     omega (arith, words, few)
 
-pub returns-clause-code : goal.returns-clause-code
-returns-clause-code c =
+pub returns : goal.returns
+returns c =
     let fs = c.args.funcs.now in
     let flags = c.as_slice-called.result.now in
+    let sets = c.find_forgotten.new.sets in
+    let forgets = forgets_of sets in
     let called = flags_are fs flags (c.as_slice-called.ensures.value ∙ c.flag_called.ensures.flags) in
-    let more = map address_of (begins (flagged flags) 0 0 fs) in
+    let more = map address_of (begins forgets (flagged flags) 0 0 fs) in
+    let more_offsets = map offset_of (entries forgets (flagged flags) 0 0 fs) in
     let targets = c.as_slice-targets.ensures ∙ ap (λ q. q.numbers) c.place_functions.ensures.targets ∙ ap (λ q. q.numbers ++ more) c.clear.ensures in
-    let items = (plan fs flags c.as_slice-targets.result.now called c.requires.can_write.few targets).items in
-    let written = map item_word (rest_items (aimed c.as_slice-targets.result.now) (flagged flags) 0 fs) in
-    let empty : c.code.inside.code.words ≡ [] = ap (λ v. v.words) c.code.view_is ∙ c.requires.no_words in
-    ap (λ q. q.words) c.write_functions.ensures.code ∙ ap (λ q. q ++ written) empty ∙ ap (map item_word) items
-
-pub returns-clause-fit : goal.returns-clause-fit
-returns-clause-fit c =
-    let fs = c.args.funcs.now in
-    let flags = c.as_slice-called.result.now in
-    let called = flags_are fs flags (c.as_slice-called.ensures.value ∙ c.flag_called.ensures.flags) in
-    let more = map address_of (begins (flagged flags) 0 0 fs) in
-    let targets = c.as_slice-targets.ensures ∙ ap (λ q. q.numbers) c.place_functions.ensures.targets ∙ ap (λ q. q.numbers ++ more) c.clear.ensures in
-    subst AllFit (plan fs flags c.as_slice-targets.result.now called c.requires.can_write.few targets).items c.write_functions.ensures.fit
-
-pub returns-clause-offsets : goal.returns-clause-offsets
-returns-clause-offsets c =
-    let fs = c.args.funcs.now in
-    let flags = c.as_slice-called.result.now in
-    let called = flags_are fs flags (c.as_slice-called.ensures.value ∙ c.flag_called.ensures.flags) in
-    let more = map offset_of (entries (flagged flags) 0 0 fs) in
-    let empty : c.code.inside.offsets.numbers ≡ [] = ap (λ v. v.offsets) c.code.view_is ∙ c.requires.no_offsets in
-    ap (λ q. q.numbers) c.place_functions.ensures.offsets ∙ ap (λ q. q ++ more) empty ∙ offsets_are fs flags called
+    let items = (plan forgets fs flags c.as_slice-targets.result.now called c.requires.can_write.few targets).items in
+    let written = map item_word (rest_items (aimed c.as_slice-targets.result.now) forgets (flagged flags) 0 fs) in
+    let no_words : c.code.inside.code.words ≡ [] = ap (λ v. v.words) c.code.view_is ∙ c.requires.no_words in
+    let no_offsets : c.code.inside.offsets.numbers ≡ [] = ap (λ v. v.offsets) c.code.view_is ∙ c.requires.no_offsets in
+    record {
+      forgets = forgets;
+      dead = c.find_forgotten.ensures.dead;
+      closed = c.find_forgotten.ensures.closed;
+      code = ap (λ q. q.words) c.write_functions.ensures.code ∙ ap (λ q. q ++ written) no_words ∙ ap (map item_word) items;
+      fit = subst AllFit items c.write_functions.ensures.fit;
+      entries = ap (λ q. q.numbers) c.place_functions.ensures.offsets ∙ ap (λ q. q ++ more_offsets) no_offsets ∙ offsets_are forgets fs flags called;
+    }
 
 pub invariant_of-code : goal.invariant_of-code
 invariant_of-code c =
     let words = c.code.invariant.0 in
     let flags = c.code.invariant.1 in
-    let places = c.code.invariant.2 in
+    let sets_room = c.code.invariant.2 in
+    let places = c.code.invariant.3 in
     let written = ap (λ q. q.room) c.write_functions.ensures.code in
     let kept = c.write_functions.ensures.kept in
     let kept2 = c.place_functions.ensures.kept in
     let capacity = c.flag_called.ensures.capacity in
+    let sets_capacity = c.fill.ensures in
     let offsets = ap (λ q. q.room) c.place_functions.ensures.offsets in
     let fs = c.args.funcs.now in
     let called = flagged c.as_slice-called.result.now in
-    let more = map address_of (begins called 0 0 fs) in
+    let more = map address_of (begins (forgets_of c.find_forgotten.new.sets) called 0 0 fs) in
     let room = ap (λ q. q.room) c.place_functions.ensures.targets in
     let long = ap (λ q. length q.numbers) c.place_functions.ensures.targets in
     let cleared = ap (λ q. q.room) c.clear.ensures in
     let none = ap (λ q. length (q.numbers ++ more)) c.clear.ensures in
-    (omega (arith, words, written, kept, kept2), omega (arith, flags, capacity, offsets), omega (arith, places, room, long, cleared, none, offsets))
+    (omega (arith, words, written, kept, kept2), omega (arith, flags, capacity, offsets), omega (arith, sets_room, sets_capacity, offsets), omega (arith, places, room, long, cleared, none, offsets))
