@@ -1,9 +1,9 @@
 -- Bits of words as registers of sets.
-use Rattle.std.proofs.Common.{◌≡◌, ℕ, zero, suc, ◌+◌, ◌-◌, ◌*◌, ◌/◌, ◌%◌, ◌^◌, ◌<◌, ◌≤◌, min, max, nat_lt, nat_le, Bool, true, false, not, ◌&&◌, ◌||◌, ◌==◌, List, [], ◌∷◌, ◌++◌, length, drop, get_or, refl, sym, ap, subst, ◌∙◌, arith, bit_and, bit_or, ◌≢◌}
+use Rattle.std.proofs.Common.{◌≡◌, ℕ, zero, suc, ◌+◌, ◌-◌, ◌*◌, ◌%◌, ◌^◌, ◌<◌, ◌≤◌, min, max, nat_lt, Bool, true, false, not, ◌&&◌, ◌||◌, ◌==◌, List, [], ◌∷◌, ◌++◌, length, drop, get_or, refl, sym, ap, subst, ◌∙◌, arith, bit_and, bit_or, ◌≢◌}
 use Rattle.std.specs.Int.{bit_at, bit_not, w32}
 use Rattle.std.proofs.lemmas.Grind.{common_steps}
 use Rattle.std.proofs.lemmas.Bool.Decides.{nat_tests}
-use Rattle.std.proofs.lemmas.Nat.Bits.{bit_at_or, bit_at_and, bit_at_not, bit_at-lt, bit_at-zero, bit_at_ones, bit_at_set_same, bit_at_set_other, shr_and_one}
+use Rattle.std.proofs.lemmas.Nat.Bits.{bit_at_or, bit_at_and, bit_at_not, bit_at-lt, bit_at-zero, bit_at_ones, bit_at_set_same, bit_at_set_other}
 use Rattle.br_flatimp.specs.Liveness.{is_in}
 use Rattle.br_emit.specs.Registers.{has}
 
@@ -51,9 +51,6 @@ is_below x h = grind (arith, nat_tests)
 pub has-bit : (set x : ℕ) → x < 32 → has set x ≡ (bit_at set x == 1)
 has-bit set x h = ap (λ b. b && (bit_at set x == 1)) (is_below x h)
 
-pub has-shifted : (set x : ℕ) → x < 32 → (bit_and (set / 2 ^ x) 1 == 1) ≡ has set x
-has-shifted set x h = ap (λ n. n == 1) (shr_and_one set x) ∙ sym (has-bit set x h)
-
 pub has-far : (set x : ℕ) → 32 ≤ x → has set x ≡ false
 has-far set x h = let e : nat_lt x 32 ≡ false = grind (arith, nat_tests) in ap (λ b. b && (bit_at set x == 1)) e
 
@@ -90,16 +87,6 @@ has-without a b x h = by (nat_lt x 32) refl
     by true e = bit-without a b x h (below x e)
     by false e = refl
 
-pub within-none : (a b rest : ℕ) → ((x : ℕ) → has rest x ≡ (has a x && not (has b x))) → rest ≡ 0 → (x : ℕ) → has a x ≡ true → has b x ≡ true
-within-none a b rest is none x inside = by (has b x) refl
-  where
-    by : (t : Bool) → has b x ≡ t → has b x ≡ true
-    by true e = e
-    by false e = absurd (clash (sym (has-nothing x) ∙ sym (ap (λ n. has n x) none) ∙ is x ∙ ap (λ p. p && not (has b x)) inside ∙ ap not e))
-      where
-        clash : false ≡ true → ⊥
-        clash e = absurd (cc)
-
 -- ---- one register
 
 pub has-just : (x y : ℕ) → x < 32 → y < 32 → has (1 * 2 ^ x % 2 ^ 32) y ≡ is_in (x ∷ []) y
@@ -120,9 +107,6 @@ has-just x y h k = by (x == y) refl
       where
         differs : x ≡ y → (x == y) ≡ false → ⊥
         differs s e = absurd (grind (arith, nat_tests))
-
-pub has-no-just : (x y : ℕ) → 32 ≤ x → y < 32 → has 0 y ≡ is_in (x ∷ []) y
-has-no-just x y h k = let other : (x == y) ≡ false = grind (arith, nat_tests) in has-nothing y ∙ sym (ap (λ b. b || false) other)
 
 -- ---- lists
 

@@ -1,5 +1,5 @@
 -- Which registers calls may change: none that is live after them, and none that no caller has or may change itself.
-use Rattle.std.proofs.Common.{◌≡◌, ◌⊎◌, inl, inr, ℕ, zero, suc, ◌+◌, ◌-◌, ◌<◌, ◌≤◌, nat_lt, nat_le, Bool, true, false, not, ◌&&◌, ◌||◌, ◌==◌, IsTrue, List, [], ◌∷◌, ◌++◌, map, length, drop, get_or, set, eqb, Some, get_or-set_same, get_or-set_other, refl, sym, ap, subst, ◌∙◌, arith}
+use Rattle.std.proofs.Common.{◌≡◌, ◌⊎◌, inl, inr, ℕ, zero, suc, ◌+◌, ◌-◌, ◌<◌, ◌≤◌, nat_lt, Bool, true, false, not, ◌&&◌, ◌||◌, ◌==◌, IsTrue, List, [], ◌∷◌, ◌++◌, map, length, drop, get_or, set, eqb, Some, get_or-set_same, get_or-set_other, refl, sym, ap, subst, ◌∙◌, arith}
 use Rattle.std.specs.Prelude.{slice_get}
 use Rattle.std.specs.List.{AllByRecursion, flat_map, list_any}
 use Rattle.std.proofs.lemmas.Grind.{common_steps}
@@ -12,13 +12,13 @@ use Rattle.br_flatimp.specs.declared.program.Stmt.{Stmt}
 use Rattle.br_flatimp.specs.declared.program.Stmt.TheOpen.{Stmt-F}
 use Rattle.br_flatimp.specs.declared.program.Stmt.TheVariants.{Stackalloc, If, Loop, Call}
 use Rattle.br_flatimp.specs.Values.{Names}
-use Rattle.br_flatimp.specs.Liveness.{Moment, is_in, union, without, nothing, live, before, before_all, moments, moment, at_test, function_moments}
+use Rattle.br_flatimp.specs.Liveness.{Moment, is_in, nothing, live, before, before_all, moments, moment, at_test, function_moments}
 use Rattle.br_flatimp.specs.Parts.{written, gathered, own_callees, callees, function_names, statement_names}
 use Rattle.br_flatimp.specs.Renaming.{ForgetsDead, ReadsNoForgotten}
 use Rattle.br_flatimp.specs.Runs.{Forgets}
 use Rattle.br_emit.specs.declared.flow.Flow.{Flow}
-use Rattle.br_emit.specs.Registers.{has, handed, own_read, Below, Narrowed, IsClosed, forgets_of}
-use Rattle.br_emit.proofs.Own.{moments-stackalloc, moments-if, moments-loop, moments-call, IsQuiet, quiet}
+use Rattle.br_emit.specs.Registers.{has, handed, own_read, Below, Narrowed, forgets_of}
+use Rattle.br_emit.proofs.Own.{moments-stackalloc, moments-if, moments-loop, moments-call}
 use Rattle.br_emit.specs.Code.{written_names}
 use Rattle.br_emit.proofs.Needing.{in_left, in_right, body_written}
 use Rattle.br_emit.proofs.Changes.{changes_at}
@@ -64,9 +64,6 @@ dead_less f g less (m ∷ ms) h = (dead_one f g less m h.0, dead_less f g less m
 
 pub narrowed_twice : (a b c : List ℕ) → Narrowed c b → Narrowed b a → Narrowed c a
 narrowed_twice a b c h k g x e = k g x (h g x e)
-
-pub narrowed_self : (a : List ℕ) → Narrowed a a
-narrowed_self a g x e = e
 
 -- ---- a walk over statements
 
@@ -136,11 +133,6 @@ no_call forgets m none = record { kept = λ g x callee after written. none_in g 
   where
     none_in : {X : Type 0} (g : ℕ) → IsTrue (is_in [] g) → X
     none_in g h = absurd (cc)
-
-pub quiet_dead : (sets : List ℕ) (s : Stmt) → IsQuiet s → (end : Names) → AllByRecursion (ForgetsDead (forgets_of sets)) ((live s).moments end)
-quiet_dead sets s is end =
-    let one = quiet s is end in
-    subst (AllByRecursion (ForgetsDead (forgets_of sets))) (sym one.2) (no_call (forgets_of sets) one.0 one.1, tt)
 
 pub buffer_dead : (sets : List ℕ) (s : Stmt) (x n : ℕ) (body inside : List Stmt) (end : Names) → s ≡ Stackalloc x n body → inside ≡ body
     → AllByRecursion (ForgetsDead (forgets_of sets)) (moments (map live inside) end) → AllByRecursion (ForgetsDead (forgets_of sets)) ((live s).moments end)
@@ -220,13 +212,6 @@ noted_step fs i f sets sets' inside is less dead so_far later narrowed rest =
 pub reads_less : (sets later : List ℕ) (fs : List FlatFunc) → Narrowed later sets → ReadsNoForgotten (forgets_of sets) fs → ReadsNoForgotten (forgets_of later) fs
 reads_less sets later [] less h = tt
 reads_less sets later (f ∷ fs) less h = (dead_less (forgets_of sets) (forgets_of later) less (function_moments f) h.0, reads_less sets later fs less h.1)
-
--- where calls may change nothing, each caller allows it
-pub closed_none : (sets : List ℕ) (fs : List FlatFunc) → ((g x : ℕ) → forgets_of sets g x ≡ false) → IsClosed (forgets_of sets) fs
-closed_none sets fs none n f there g callee x e = absurd (clash (sym (none g x) ∙ e))
-  where
-    clash : false ≡ true → ⊥
-    clash e = absurd (cc)
 
 -- the functions from the n-th on allow what their callees may change
 abbrev pub ClosedFrom : List ℕ → List FlatFunc → ℕ → Type 0

@@ -1,5 +1,5 @@
 -- The code of a function that is called, by what is found of the function.
-use Rattle.std.proofs.Common.{◌≡◌, ℕ, ◌+◌, ◌-◌, ◌*◌, ◌%◌, List, length, refl, ap, ◌∙◌, arith}
+use Rattle.std.proofs.Common.{◌≡◌, ℕ, ◌+◌, ◌-◌, ◌*◌, ◌%◌, List, length, ap, ◌∙◌, arith}
 use Rattle.br_flatimp.specs.declared.program.FlatFunc.{FlatFunc}
 use Rattle.br_flatimp.specs.declared.program.Stmt.{Stmt}
 use Rattle.br_flatimp.specs.Sizes.{nest}

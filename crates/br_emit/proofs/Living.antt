@@ -1,11 +1,11 @@
 -- What is live before statements, by the registers that they may read and those that they may leave as they were.
-use Rattle.std.proofs.Common.{◌≡◌, ℕ, ◌+◌, ◌<◌, nat_lt, Bool, true, false, not, ◌&&◌, ◌||◌, ◌==◌, IsTrue, List, [], ◌∷◌, ◌++◌, map, length, drop, get_or, refl, sym, ap, subst, ◌∙◌, arith}
+use Rattle.std.proofs.Common.{◌≡◌, ℕ, ◌+◌, ◌<◌, Bool, true, false, not, ◌&&◌, ◌||◌, List, [], ◌∷◌, map, length, drop, get_or, refl, sym, ap, ◌∙◌}
 use Rattle.br_flatimp.specs.declared.program.Cond.{Cond}
 use Rattle.br_flatimp.specs.declared.program.Stmt.{Stmt}
 use Rattle.br_flatimp.specs.declared.program.Stmt.TheVariants.{Stackalloc, If, Loop}
 use Rattle.br_flatimp.specs.Values.{Names}
 use Rattle.br_flatimp.specs.Parts.{test_names}
-use Rattle.br_flatimp.specs.Liveness.{nothing, is_in, union, without, live, before, before_all, at_test}
+use Rattle.br_flatimp.specs.Liveness.{nothing, is_in, live, before, before_all, at_test}
 use Rattle.br_emit.specs.declared.flow.Flow.{Flow}
 use Rattle.br_emit.specs.Registers.{has, handed, own_read, own_written}
 use Rattle.br_emit.proofs.Bits.{has-every, has-nothing}

@@ -1,6 +1,5 @@
 -- What statements write and read themselves, and what is live before them.
-use Rattle.std.proofs.Common.{◌≡◌, ℕ, ℤ, ◌⊎◌, inl, inr, List, [], ◌∷◌, ◌++◌, map, refl, sym, ap, subst, ◌∙◌}
-use Rattle.std.specs.List.{AllByRecursion}
+use Rattle.std.proofs.Common.{◌≡◌, ℕ, ℤ, ◌⊎◌, inl, inr, List, [], ◌∷◌, ◌++◌, map, sym, ap, subst, ◌∙◌}
 use Rattle.br_words.specs.declared.operation.BinOp.{BinOp}
 use Rattle.br_words.specs.declared.size.Size.{Size}
 use Rattle.br_flatimp.specs.declared.program.Cond.{Cond}
@@ -11,7 +10,7 @@ use Rattle.br_flatimp.specs.declared.program.Stmt.TheVariants.{Lit, Copy, Op, Lo
 use Rattle.br_flatimp.specs.declared.program.Stmt.TheFolds.{fold-roll-Stmt}
 use Rattle.br_flatimp.specs.Values.{Names}
 use Rattle.br_flatimp.specs.Parts.{written, read, test_names, operand_names}
-use Rattle.br_flatimp.specs.Liveness.{is_in, union, without, Live, live_step, live, before, before_all, moments, moment, at_test, Moment}
+use Rattle.br_flatimp.specs.Liveness.{is_in, union, without, Live, live_step, live, before, before_all, moments, moment, at_test}
 use Rattle.br_emit.specs.Registers.{own_read, own_written}
 
 pub written-lit : (x n : ℕ) → own_written (Lit x n) ≡ x ∷ []
@@ -224,29 +223,3 @@ moments-loop first test last after = ap (λ (l : Live). l.moments after) (ap liv
 
 pub moments-call : (xs : List ℕ) (g : ℕ) (ys : List ℕ) (after : Names) → (live (Call xs g ys)).moments after ≡ moment (Stmt-F.Call xs g ys) after ∷ []
 moments-call xs g ys after = ap (λ (l : Live). l.moments after) (ap live (sym (rolls-Call xs g ys)) ∙ fold-roll-Stmt Live live_step (Stmt-F.Call xs g ys))
-
--- a statement that makes no call, and has no parts
-abbrev pub IsQuiet : Stmt → Type 0
-IsQuiet s =
-    ((a : ℕ) × (b : ℕ) × (s ≡ Lit a b))
-    ⊎ (((a : ℕ) × (b : ℕ) × (s ≡ Copy a b))
-    ⊎ (((a : ℕ) × (b : BinOp) × (c : ℕ) × (d : Operand) × (s ≡ Op a b c d))
-    ⊎ (((a : ℕ) × (b : Size) × (c : ℕ) × (d : ℤ) × (s ≡ Load a b c d))
-    ⊎ (((a : Size) × (b : ℕ) × (c : ℕ) × (d : ℤ) × (s ≡ Store a b c d))
-    ⊎ (((a : ℕ) × (b : Size) × (c : List ℕ) × (d : ℕ) × (s ≡ Table a b c d))
-    ⊎ (((a : ℕ) × (b : ℕ) × (s ≡ Read a b))
-    ⊎ (((a : ℕ) × (b : ℕ) × (s ≡ Write a b)))))))))
-
--- it has one moment, of no call
-abbrev pub OneMoment : Stmt → Type 0
-OneMoment s = (after : Names) → (m : Moment) × (m.callees ≡ []) × ((live s).moments after ≡ m ∷ [])
-
-pub quiet : (s : Stmt) → IsQuiet s → OneMoment s
-quiet s (inl e) = subst OneMoment (sym e.2) (λ after. (moment (Stmt-F.Lit e.0 e.1) after, refl, ap (λ (l : Live). l.moments after) (ap live (sym (rolls-Lit e.0 e.1)) ∙ fold-roll-Stmt Live live_step (Stmt-F.Lit e.0 e.1))))
-quiet s (inr (inl e)) = subst OneMoment (sym e.2) (λ after. (moment (Stmt-F.Copy e.0 e.1) after, refl, ap (λ (l : Live). l.moments after) (ap live (sym (rolls-Copy e.0 e.1)) ∙ fold-roll-Stmt Live live_step (Stmt-F.Copy e.0 e.1))))
-quiet s (inr (inr (inl e))) = subst OneMoment (sym e.4) (λ after. (moment (Stmt-F.Op e.0 e.1 e.2 e.3) after, refl, ap (λ (l : Live). l.moments after) (ap live (sym (rolls-Op e.0 e.1 e.2 e.3)) ∙ fold-roll-Stmt Live live_step (Stmt-F.Op e.0 e.1 e.2 e.3))))
-quiet s (inr (inr (inr (inl e)))) = subst OneMoment (sym e.4) (λ after. (moment (Stmt-F.Load e.0 e.1 e.2 e.3) after, refl, ap (λ (l : Live). l.moments after) (ap live (sym (rolls-Load e.0 e.1 e.2 e.3)) ∙ fold-roll-Stmt Live live_step (Stmt-F.Load e.0 e.1 e.2 e.3))))
-quiet s (inr (inr (inr (inr (inl e))))) = subst OneMoment (sym e.4) (λ after. (moment (Stmt-F.Store e.0 e.1 e.2 e.3) after, refl, ap (λ (l : Live). l.moments after) (ap live (sym (rolls-Store e.0 e.1 e.2 e.3)) ∙ fold-roll-Stmt Live live_step (Stmt-F.Store e.0 e.1 e.2 e.3))))
-quiet s (inr (inr (inr (inr (inr (inl e)))))) = subst OneMoment (sym e.4) (λ after. (moment (Stmt-F.Table e.0 e.1 e.2 e.3) after, refl, ap (λ (l : Live). l.moments after) (ap live (sym (rolls-Table e.0 e.1 e.2 e.3)) ∙ fold-roll-Stmt Live live_step (Stmt-F.Table e.0 e.1 e.2 e.3))))
-quiet s (inr (inr (inr (inr (inr (inr (inl e))))))) = subst OneMoment (sym e.2) (λ after. (moment (Stmt-F.Read e.0 e.1) after, refl, ap (λ (l : Live). l.moments after) (ap live (sym (rolls-Read e.0 e.1)) ∙ fold-roll-Stmt Live live_step (Stmt-F.Read e.0 e.1))))
-quiet s (inr (inr (inr (inr (inr (inr (inr e))))))) = subst OneMoment (sym e.2) (λ after. (moment (Stmt-F.Write e.0 e.1) after, refl, ap (λ (l : Live). l.moments after) (ap live (sym (rolls-Write e.0 e.1)) ∙ fold-roll-Stmt Live live_step (Stmt-F.Write e.0 e.1))))

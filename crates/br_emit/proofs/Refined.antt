@@ -1,12 +1,10 @@
 -- What is shown of a program whose calls forget names is shown of the program, where it refines that.
-use Rattle.std.proofs.Common.{◌≡◌, ◌≢◌, ◌⊎◌, inl, inr, ℕ, zero, suc, ◌<◌, ◌≤◌, List, [], ◌∷◌, length, map, Option, Some, refl, sym, ap, subst, ◌∙◌}
+use Rattle.std.proofs.Common.{◌≡◌, ◌≢◌, ◌⊎◌, inl, inr, ℕ, zero, suc, List, [], ◌∷◌, length, map, Some, sym, ap, subst, ◌∙◌}
 use Rattle.std.specs.Prelude.{slice_get, unwrap_or}
-use Rattle.std.specs.FinMap as finmap
-use Rattle.br_bytes.specs.declared.run.Choice.{Choice}
 use Rattle.br_bytes.specs.declared.run.Outcome.{Outcome}
 use Rattle.br_bytes.specs.declared.run.Outcome.TheVariants.{Undefined, NoChoice}
 use Rattle.br_bytes.specs.Memory.{Memory}
-use Rattle.br_bytes.specs.Buffers.{AreWords, AreChoices}
+use Rattle.br_bytes.specs.Buffers.{AreWords}
 use Rattle.br_bytes.specs.Called.{Called}
 use Rattle.br_words.specs.declared.layout.Layout.TheVariants.{Two}
 use Rattle.br_flatimp.specs.declared.program.FlatFunc.{FlatFunc}

@@ -1,5 +1,5 @@
 -- Sets of registers as words, bit by bit, and what is found of the registers that calls may change.
-use Rattle.std.specs.Prelude.{◌≡◌, ℕ, ◌<◌, nat_lt, ◌==◌, ◌&&◌, ◌||◌, Bool, true, IsTrue, List, map, Some, slice_get, get_or}
+use Rattle.std.specs.Prelude.{◌≡◌, ℕ, ◌<◌, nat_lt, ◌==◌, ◌&&◌, ◌||◌, true, IsTrue, List, map, Some, slice_get, get_or}
 use Rattle.std.specs.Int.{bit_at}
 use Rattle.br_flatimp.specs.declared.program.FlatFunc.{FlatFunc}
 use Rattle.br_flatimp.specs.declared.program.Stmt.{Stmt}

@@ -58,5 +58,8 @@ fn changed_by(sets: &[u32], s: &Stmt) -> u32
 pub fn names_of(f: &FlatFunc) -> u32
     ensures { (x : ℕ) → has result x ≡ true → is_in (function_names f.now) x ≡ true }
 {
-    union(all_of(f.args.as_slice()), changed_by_all(&[], f.body.as_slice()))
+    union(
+        all_of(f.args.as_slice()),
+        changed_by_all(&[], f.body.as_slice()),
+    )
 }

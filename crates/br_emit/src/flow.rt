@@ -5,7 +5,7 @@ ghost use Rattle.br_flatimp.specs.Liveness.{before, before_all, is_in, nothing};
 ghost use Rattle.br_flatimp.specs.Values.{Names};
 ghost use Rattle.br_emit.specs.Registers.{handed, has, own_read, own_written};
 
-use crate::sets::{all_of, common, union, without, EVERY};
+use crate::sets::{EVERY, all_of, common, union, without};
 use br_flatimp::{Cond, Operand, Stmt};
 
 /// The registers that statements may read before they write them, and those that they may leave as they
@@ -30,10 +30,8 @@ fn written_by(s: &Stmt) -> u32
         | Stmt::Stackalloc(x, _, _)
         | Stmt::Read(x, _) => all_of(&[*x]),
         Stmt::Call(xs, _, _) => all_of(xs.as_slice()),
-        Stmt::Store(_, _, _, _)
-        | Stmt::Write(_, _)
-        | Stmt::If(_, _, _)
-        | Stmt::Loop(_, _, _) => all_of(&[]),
+        Stmt::Store(_, _, _, _) | Stmt::Write(_, _) | Stmt::If(_, _, _) | Stmt::Loop(_, _, _) =>
+            all_of(&[]),
     }
 }
 
@@ -44,10 +42,8 @@ pub fn read_by(s: &Stmt) -> u32
 {
     match s {
         Stmt::Lit(_, _) | Stmt::Stackalloc(_, _, _) => all_of(&[]),
-        Stmt::Copy(_, y)
-        | Stmt::Load(_, _, y, _)
-        | Stmt::Table(_, _, _, y)
-        | Stmt::Read(_, y) => all_of(&[*y]),
+        Stmt::Copy(_, y) | Stmt::Load(_, _, y, _) | Stmt::Table(_, _, _, y) | Stmt::Read(_, y) =>
+            all_of(&[*y]),
         Stmt::Op(_, _, y, Operand::Name(z)) => all_of(&[*y, *z]),
         Stmt::Op(_, _, y, Operand::Const(_)) => all_of(&[*y]),
         Stmt::Store(_, y, z, _) | Stmt::Write(y, z) => all_of(&[*y, *z]),
@@ -142,7 +138,10 @@ pub fn flow_of(s: &Stmt) -> Flow
         Stmt::Stackalloc(_, _, body) => then(own(written, read), flow_of_all(body.as_slice())),
         Stmt::If(_, first, second) => then(
             own(written, read),
-            either(flow_of_all(first.as_slice()), flow_of_all(second.as_slice())),
+            either(
+                flow_of_all(first.as_slice()),
+                flow_of_all(second.as_slice()),
+            ),
         ),
         Stmt::Loop(first, _, last) => flow_of_loop(
             flow_of_all(first.as_slice()),

@@ -12,7 +12,7 @@ ghost use Rattle.br_emit.specs.Registers.{Below, IsClosed, Narrowed, forgets_of,
 
 use crate::changing::names_of;
 use crate::flow::{apply, at_test, flow_of, flow_of_all, read_by};
-use crate::sets::{all_of, common, is_within, set_at, union, without, EVERY};
+use crate::sets::{EVERY, all_of, common, is_within, set_at, union, without};
 use br_flatimp::{FlatFunc, Stmt};
 
 // How often the names of callers are looked at, at most. A time more is needed where a function stands
@@ -225,7 +225,12 @@ fn narrow(sets: &mut [u32], s: &Stmt, allowed: u32) -> bool
     match s {
         Stmt::Call(_, g, _) => narrow_one(sets, *g, allowed),
         Stmt::Stackalloc(_, _, body) => narrow_all(sets, body.as_slice(), allowed),
-        Stmt::If(_, first, second) => narrow_two(sets, first.as_slice(), second.as_slice(), allowed),
+        Stmt::If(_, first, second) => narrow_two(
+            sets,
+            first.as_slice(),
+            second.as_slice(),
+            allowed,
+        ),
         Stmt::Loop(first, _, last) => narrow_two(sets, first.as_slice(), last.as_slice(), allowed),
         Stmt::Lit(_, _)
         | Stmt::Copy(_, _)

@@ -1,10 +1,6 @@
-use Rattle.std.proofs.Common.{◌≡◌, ℕ, ◌<◌, ◌+◌, ◌*◌, ◌||◌, max, drop}
-use Rattle.std.specs.List.{flat_map, list_any}
+use Rattle.std.proofs.Common.{◌+◌, ◌*◌, max}
 use denote.Param.Weighed.{most}
-use Rattle.br_flatimp.specs.Liveness.{is_in}
-use Rattle.br_flatimp.specs.Parts.{written, gathered, own_callees}
 use Rattle.br_flatimp.proofs.program.Stmt.TheLaws.{the_size}
-use Rattle.br_emit.specs.Registers.{has, forgets_of}
 use Rattle.br_emit.proofs.Changes.{Changed}
 use Rattle.br_emit.proofs.changing.+changing.Given as goal
 

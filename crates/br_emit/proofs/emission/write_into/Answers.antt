@@ -1,4 +1,4 @@
-use Rattle.std.proofs.Common.{◌≡◌, ◌+◌, ◌++◌, [], map, length, sym, ap, subst, ◌∙◌, arith}
+use Rattle.std.proofs.Common.{◌≡◌, ◌+◌, ◌++◌, [], map, length, ap, subst, ◌∙◌, arith}
 use Rattle.br_emit.specs.Code.{AllFit, item_word}
 use Rattle.br_emit.specs.Registers.{forgets_of}
 use Rattle.br_emit.specs.Sizes.{begins, entries}

@@ -1,5 +1,5 @@
 -- A buffer, a conditional and a loop part by part, and a list statement by statement.
-use Rattle.std.proofs.Common.{◌≡◌, ◌<◌, [], length, drop, sym, ap, ◌∙◌, arith}
+use Rattle.std.proofs.Common.{◌≡◌, [], drop, sym, ap, ◌∙◌, arith}
 use Rattle.std.proofs.lemmas.Grind.{common_steps}
 use Rattle.br_flatimp.specs.Liveness.{before_all}
 use Rattle.br_emit.specs.Registers.{handed}

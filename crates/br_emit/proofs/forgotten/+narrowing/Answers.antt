@@ -1,8 +1,7 @@
 -- A buffer, a conditional and a loop part by part, and a list statement by statement.
-use Rattle.std.proofs.Common.{rules, ◌≡◌, ◌++◌, true, [], drop, sym, subst, ◌∙◌, arith}
+use Rattle.std.proofs.Common.{◌≡◌, ◌++◌, [], drop, sym, subst, ◌∙◌, arith}
 use Rattle.std.specs.List.{flat_map}
 use Rattle.std.proofs.lemmas.Grind.{common_steps}
-use Rattle.br_flatimp.specs.Liveness.{is_in}
 use Rattle.br_flatimp.specs.Parts.{gathered, own_callees}
 use Rattle.br_emit.proofs.Forgetting.{Within, both_true, within_both, within_step, narrowed_twice}
 use Rattle.br_emit.proofs.Unrolling.{gathered_buffer, gathered_if, gathered_loop}

@@ -1,5 +1,5 @@
 -- A buffer, a conditional, a loop and a call, and a list from its last statement to its first.
-use Rattle.std.proofs.Common.{◌≡◌, ◌+◌, ◌-◌, ◌<◌, ◌≤◌, length, map, drop, sym, ap, subst, ◌∙◌, arith}
+use Rattle.std.proofs.Common.{◌≡◌, ◌-◌, ◌<◌, ◌≤◌, length, map, drop, sym, ap, subst, ◌∙◌, arith}
 use Rattle.std.specs.List.{AllByRecursion}
 use denote.Param.Weighed.{most}
 use Rattle.br_flatimp.proofs.program.Stmt.TheLaws.{the_size}
@@ -7,7 +7,7 @@ use Rattle.br_flatimp.specs.declared.program.Stmt.{Stmt}
 use Rattle.br_flatimp.specs.Liveness.{before_all, at_test, live, moments}
 use Rattle.br_flatimp.specs.Renaming.{ForgetsDead}
 use Rattle.br_emit.specs.Registers.{Below, forgets_of, has}
-use Rattle.br_emit.proofs.Forgetting.{at_most, drop_all, narrowed_twice, before_below, test_below, live_step, dead_step, quiet_dead, buffer_dead, if_dead, loop_dead, call_dead}
+use Rattle.br_emit.proofs.Forgetting.{at_most, drop_all, narrowed_twice, before_below, test_below, live_step, dead_step, buffer_dead, if_dead, loop_dead, call_dead}
 use Rattle.br_emit.proofs.forgotten.+noting.Goals as goal
 
 pub note_all-note-requires : goal.note_all-note-requires

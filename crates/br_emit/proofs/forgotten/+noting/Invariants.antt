@@ -1,4 +1,4 @@
-use Rattle.std.proofs.Common.{◌≡◌, ℕ, ◌<◌, ◌≤◌, ◌+◌, ◌*◌, map, length, drop}
+use Rattle.std.proofs.Common.{◌≤◌, ◌+◌, ◌*◌, map, length, drop}
 use Rattle.std.specs.List.{AllByRecursion}
 use denote.Param.Weighed.{most}
 use Rattle.br_flatimp.specs.Liveness.{before_all, live, moments}

@@ -1,4 +1,4 @@
-use Rattle.std.proofs.Common.{arith, ◌≤◌, length}
+use Rattle.std.proofs.Common.{arith}
 use Rattle.std.proofs.lemmas.Grind.{common_steps}
 use Rattle.br_emit.proofs.Forgetting.{emptied, all_emptied}
 use Rattle.br_emit.proofs.forgotten.empty.Goals as goal

@@ -1,4 +1,4 @@
-use Rattle.std.proofs.Common.{◌≡◌, ℕ, ◌<◌, ◌≤◌, false, length}
+use Rattle.std.proofs.Common.{◌≡◌, ℕ, ◌<◌, false, length}
 use Rattle.br_emit.specs.Registers.{forgets_of}
 use Rattle.br_emit.proofs.forgotten.empty.Given as goal
 

@@ -1,8 +1,6 @@
-use Rattle.std.proofs.Common.{◌≡◌, ◌||◌, true, ap, subst, sym, ◌∙◌}
+use Rattle.std.proofs.Common.{subst}
 use Rattle.std.specs.List.{flat_map}
-use Rattle.br_flatimp.specs.Parts.{gathered, own_callees, function_names}
-use Rattle.br_flatimp.specs.Liveness.{is_in}
-use Rattle.br_emit.specs.Registers.{has, forgets_of}
+use Rattle.br_flatimp.specs.Parts.{gathered, own_callees}
 use Rattle.br_emit.proofs.Forgetting.{Within, owned}
 use Rattle.br_emit.proofs.forgotten.narrow_callees.Goals as goal
 

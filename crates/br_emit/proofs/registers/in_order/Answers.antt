@@ -1,4 +1,3 @@
-use Rattle.std.proofs.Common.{ℕ, Bool}
 use Rattle.std.specs.Prelude.{filter}
 use Rattle.br_emit.specs.Code.{registers}
 use Rattle.br_emit.specs.Registers.{has}

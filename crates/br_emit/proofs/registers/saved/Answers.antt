@@ -1,7 +1,6 @@
-use Rattle.std.proofs.Common.{◌≡◌, ◌∙◌, ◌&&◌, ◌||◌, not, ap}
-use Rattle.std.specs.List.{flat_map, list_any}
+use Rattle.std.proofs.Common.{◌∙◌, ◌&&◌, not, ap}
 use Rattle.br_flatimp.specs.Liveness.{is_in}
-use Rattle.br_flatimp.specs.Parts.{written, own_callees, gathered}
+use Rattle.br_flatimp.specs.Parts.{written, own_callees}
 use Rattle.br_emit.specs.Code.{changes}
 use Rattle.br_emit.specs.Registers.{has, forgets_of}
 use Rattle.br_emit.proofs.Changes.{changes_at, own_gathered}
