@@ -13,6 +13,7 @@ use Rattle.br_measure.specs.Bulk as source
 use Rattle.br_measure.specs.Measure.{measure}
 use Rattle.br_measure.specs.Faults.{IsSound}
 use Rattle.br_flatimp.specs.declared.program.FlatFunc.{FlatFunc}
+use Rattle.br_flatimp.specs.Liveness.{has_no_dead}
 use Rattle.br_flatimp.specs.Missed.{has_no_missed}
 use Rattle.br_flatimp.specs.Parts.{callees}
 use Rattle.br_flatimp.specs.Refines.{Meaning, Refines, meaning, signature}
@@ -20,6 +21,7 @@ use Rattle.br_flatimp.specs.Sizes.{HasNoRecursion, KeptFunction, Kept, units, la
 use Rattle.br_flatimp.specs.WellFormed.{IsRegisterForm, IsWellFormed}
 use Rattle.br_flatten.specs.Meaning.{source_meaning, source_signature}
 use Rattle.br_flatten.specs.Sized.{IsSized, AreSized}
+use Rattle.br_deadcode.specs.LeftOut.{InPairs, MissesNoMore}
 use Rattle.br_spill.specs.Spill.{SpilledFunctions, StayLean}
 use Rattle.br_emit.specs.Emitted.{AreNeeds}
 use Rattle.br_compile.specs.Lowered.{IsFlat, IsInRegisters, IsLean}
@@ -32,6 +34,9 @@ and-first false b e = absurd (cc e)
 and-second : (a b : Bool) → (a && b) ≡ true → b ≡ true
 and-second true b e = e
 and-second false b e = absurd (cc e)
+
+both : (a b : Bool) → a ≡ true → b ≡ true → (a && b) ≡ true
+both a b e f = rw (e, f) refl
 
 fold_from : (a : ℕ) (xs : List ℕ) → fold ◌+◌ a xs ≡ a + sum xs
 fold_from a [] = omega arith
@@ -102,16 +107,30 @@ in_registers passes fs ps qs sound flat spilled kept form = record {
 
 -- ---- functions without buffers
 
-pub lean : (qs ps : List FlatFunc) → StayLean qs ps → list_all has_no_missed ps ≡ true → AllByRecursion IsLean qs
-lean [] [] stay missed = tt
-lean [] (p ∷ ps) stay missed = absurd stay
-lean (q ∷ qs) [] stay missed = absurd stay
-lean (q ∷ qs) (p ∷ ps) stay missed = (
+pub lean : (qs ps : List FlatFunc) → StayLean qs ps → list_all has_no_missed ps ≡ true → list_all has_no_dead ps ≡ true
+    → AllByRecursion IsLean qs
+lean [] [] stay missed dead = tt
+lean [] (p ∷ ps) stay missed dead = absurd stay
+lean (q ∷ qs) [] stay missed dead = absurd stay
+lean (q ∷ qs) (p ∷ ps) stay missed dead = (
   record {
     none_missed = λ none. stay.0.none_missed none (and-first (has_no_missed p) (list_all has_no_missed ps) missed);
+    none_dead = λ none. stay.0.none_dead none (and-first (has_no_dead p) (list_all has_no_dead ps) dead);
   },
-  lean qs ps stay.1 (and-second (has_no_missed p) (list_all has_no_missed ps) missed),
+  lean qs ps stay.1 (and-second (has_no_missed p) (list_all has_no_missed ps) missed)
+      (and-second (has_no_dead p) (list_all has_no_dead ps) dead),
 )
+
+-- a removal leaves no operand missed where none was
+pub still-none-missed : (qs ps : List FlatFunc) → InPairs MissesNoMore qs ps → list_all has_no_missed ps ≡ true
+    → list_all has_no_missed qs ≡ true
+still-none-missed [] [] pairs missed = refl
+still-none-missed [] (p ∷ ps) pairs missed = absurd pairs
+still-none-missed (q ∷ qs) [] pairs missed = absurd pairs
+still-none-missed (q ∷ qs) (p ∷ ps) pairs missed =
+    both (has_no_missed q) (list_all has_no_missed qs)
+    (pairs.0 (and-first (has_no_missed p) (list_all has_no_missed ps) missed))
+    (still-none-missed qs ps pairs.1 (and-second (has_no_missed p) (list_all has_no_missed ps) missed))
 
 -- ---- what emission asks for
 

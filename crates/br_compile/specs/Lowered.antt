@@ -5,6 +5,7 @@ use Rattle.br_syntax.specs.declared.program.Func.{Func}
 use Rattle.br_measure.specs.Bulk.{bulk}
 use Rattle.br_measure.specs.Measure.{measure}
 use Rattle.br_flatimp.specs.declared.program.FlatFunc.{FlatFunc}
+use Rattle.br_flatimp.specs.Liveness.{has_no_dead_but_copies}
 use Rattle.br_flatimp.specs.Missed.{has_no_missed}
 use Rattle.br_flatimp.specs.Refines.{Refines, meaning}
 use Rattle.br_flatimp.specs.Sizes as sizes
@@ -32,9 +33,10 @@ pub record IsInRegisters (flat : List FlatFunc) (fs : List Func) : Type 0 where
       → sizes.need flat q ≤ measure fs f
   pub short : sizes.flat_bulk flat ≤ rate * bulk fs
 
--- no operand of a function without buffers is missed
+-- in a function without buffers no operand is missed, and no dead statement but a copy could be removed
 pub record IsLean (q : FlatFunc) : Type 0 where
   pub none_missed : buffers q ≡ 0 → IsTrue (has_no_missed q)
+  pub none_dead : buffers q ≡ 0 → IsTrue (has_no_dead_but_copies q)
 
 -- They do, and with them stand the bytes of stack that each needs and the bulk of the program.
 pub record IsLowered (flat : List FlatFunc) (stack : List ℕ) (counted : ℕ) (fs : List Func) : Type 0 where

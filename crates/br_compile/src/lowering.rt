@@ -7,6 +7,7 @@ ghost use Rattle.br_sexpr.specs.Reads.{Reads};
 ghost use Rattle.br_syntax.specs.Denotes.{Denotes};
 ghost use Rattle.br_syntax.specs.declared.program.Func.{Func};
 ghost use Rattle.br_measure.specs.Faults.{IsSound};
+ghost use Rattle.br_flatimp.specs.Liveness.{has_no_dead};
 ghost use Rattle.br_flatimp.specs.Missed.{has_no_missed};
 ghost use Rattle.br_compile.specs.declared.refusal.Refusal.{Refusal};
 ghost use Rattle.br_compile.specs.Refusal.{most_bytes, Accepts, IsFaultOf, IsShapeRefusal, IsNameRefusal};
@@ -14,6 +15,7 @@ ghost use Rattle.br_compile.specs.Lowered.{IsFlat, IsInRegisters, IsLean, IsLowe
 
 use crate::refusal::Refusal;
 use br_base::{NoMemory, OrMemory};
+use br_deadcode::remove_dead;
 use br_flatimp::{FlatProgram, refines_composes};
 use br_flatten::flatten;
 use br_immediates::use_immediates;
@@ -42,7 +44,8 @@ pub struct Lowered {
 /// The flat program in register form of the program that a source text stands for. It refines that
 /// program and has its functions in order, each needs at most the measure of its source, and its flat
 /// bulk is at most 24 words for each unit of the program's bulk. In a function without buffers no
-/// operand is a name that could be a constant.
+/// operand is a name that could be a constant, and no statement but a copy writes a name that is never
+/// read and does nothing else.
 ///
 /// An `Err` that is no want of memory is the first thing that refuses the text.
 pub fn lower(alloc: Global, text: &[u8]) -> Result<Lowered, OrMemory<Refusal>>
@@ -95,11 +98,13 @@ fn in_registers(alloc: Global, program: &Checked) -> Result<FlatProgram, NoMemor
 fn flat_program(alloc: Global, program: &Checked) -> Result<FlatProgram, NoMemory>
     ensures flat { IfOk result (λ q. IsFlat q.funcs program.now) }
     ensures none_missed { IfOk result (λ q. IsTrue (list_all has_no_missed q.funcs)) }
+    ensures none_dead { IfOk result (λ q. IsTrue (list_all has_no_dead q.funcs)) }
 {
     refines_composes();
     let first = flatten(alloc, program)?;
     let constants = use_immediates(alloc, first)?;
-    Ok(constants)
+    let live = remove_dead(alloc, constants)?;
+    Ok(live)
 }
 
 fn trees_of(alloc: Global, text: &[u8]) -> Result<Items<Tree>, OrMemory<Refusal>>

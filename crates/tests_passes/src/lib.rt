@@ -10,4 +10,6 @@ mod immediates;
 #[cfg(test)]
 mod lightbulb;
 #[cfg(test)]
+mod lowering;
+#[cfg(test)]
 mod spilling;

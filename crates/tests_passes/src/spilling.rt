@@ -60,6 +60,7 @@ fn names_in_registers_and_in_the_buffer(rt: HostRuntime) -> Result<(), Fail> {
         (21, 0, 3),
         (22, 16, 5),
         (26, 32, 5),
+        (27, 36, 5),
         (40, 88, 5),
         (530, 2048, 5),
         (531, 2052, 11),

@@ -1,11 +1,11 @@
 use Rattle.br_compile.specs.Lowered.{IsFlat}
-use Rattle.br_compile.proofs.Passes.{after_pass}
+use Rattle.br_compile.proofs.Passes.{after_pass, still-none-missed}
 use Rattle.br_compile.proofs.lowering.flat_program.Goals as goal
 
 pub returns-clause-flat : goal.returns-clause-flat
 returns-clause-flat c =
     let fs = c.args.program.now in
-    let composes = c.refines_composes.ensures.composes in
+    let after = after_pass c.refines_composes.ensures.composes fs in
     let first = c.in_ok-first in
     let flat : IsFlat first.first.funcs fs = record {
       well_formed = first.ensures.well_formed;
@@ -13,5 +13,12 @@ returns-clause-flat c =
       sizes = first.ensures.sizes;
     } in
     let constants = c.in_ok-constants in
-    after_pass composes fs constants.constants.funcs first.first.funcs flat
-    constants.ensures.well_formed constants.ensures.refines constants.ensures.kept
+    let live = c.in_ok-live in
+    let with_constants = after constants.constants.funcs first.first.funcs flat constants.ensures.well_formed constants.ensures.refines constants.ensures.kept in
+    after live.live.funcs constants.constants.funcs with_constants live.ensures.well_formed live.ensures.refines live.ensures.kept
+
+pub returns-clause-none_missed : goal.returns-clause-none_missed
+returns-clause-none_missed c =
+    let constants = c.in_ok-constants in
+    let live = c.in_ok-live in
+    still-none-missed live.live.funcs constants.constants.funcs live.ensures.missed constants.ensures.none_missed

@@ -25,5 +25,5 @@ returns c =
     record {
       lowered = in_registers passes c.args.program.now ps qs c.program-source.ensures.sound
           flat.ensures.flat each spilled.ensures.refines spilled.ensures.form;
-      lean = lean qs ps spilled.ensures.lean flat.ensures.none_missed;
+      lean = lean qs ps spilled.ensures.lean flat.ensures.none_missed flat.ensures.none_dead;
     }
