@@ -8,3 +8,5 @@ pub mod Frames
 pub mod Named
 pub mod Numbers
 pub mod Forms
+pub mod Parts
+pub mod Words

@@ -1,6 +1,7 @@
 pub mod Values
 pub mod Runs
 pub mod Calls
+pub mod Names
 pub mod Variables
 pub mod Running
 pub mod Numbered

@@ -1,53 +1,73 @@
--- What stands for commands of the source where numbers stand in place of callees' names.
-use Rattle.std.specs.Prelude.{ℕ, List, [], map, slice_index_or}
-use denote.Ref.{Bor}
-use Rattle.std.specs.HashSet.{HashSet}
+-- What stands for commands of the source where numbers stand in place of names.
+use Rattle.std.specs.Prelude.{◌≡◌, List, map}
+use Rattle.br_syntax.specs.declared.program.Expr.{Expr}
+use Rattle.br_syntax.specs.declared.program.Expr.TheVariants as expression
 use Rattle.br_syntax.specs.declared.program.Cmd.{Cmd}
 use Rattle.br_syntax.specs.declared.program.Cmd.TheVariants as command
 use Rattle.br_syntax.specs.declared.program.Func.{Func}
 use Rattle.br_source_meaning.specs.Values.{Name}
+use Rattle.br_source_meaning.specs.Names.{listed, name_at, names_at}
 use Rattle.br_source_meaning.specs.declared.numbered.Target.{Target}
 use Rattle.br_source_meaning.specs.declared.numbered.Target.TheVariants.{Number, Missing}
+use Rattle.br_source_meaning.specs.declared.numbered.NumberedExpr.{NumberedExpr}
+use Rattle.br_source_meaning.specs.declared.numbered.NumberedExpr.TheOpen.{NumberedExpr-F}
+use Rattle.br_source_meaning.specs.declared.numbered.NumberedExpr.TheFolds.{fold-NumberedExpr}
 use Rattle.br_source_meaning.specs.declared.numbered.NumberedCmd.{NumberedCmd}
 use Rattle.br_source_meaning.specs.declared.numbered.NumberedCmd.TheOpen.{NumberedCmd-F}
 use Rattle.br_source_meaning.specs.declared.numbered.NumberedCmd.TheFolds.{fold-NumberedCmd}
 use Rattle.br_source_meaning.specs.declared.numbered.NumberedFunc.{NumberedFunc}
 
--- the names that a set of keys holds, in the order of their numbers
-abbrev pub listed : {S : Type 0} → HashSet (Bor (List ℕ)) S → List Name
-listed s = map (λ k. k.now) s.keys
-
--- the name of a callee; a number that no name has stands for the empty list, which is no name
+-- the name of a callee
 abbrev pub target_name : List Name → Target → Name
-target_name names (Number k) = slice_index_or names k []
+target_name names (Number k) = name_at names k
 target_name names (Missing x) = x.now
 
--- a command, given those in it
-abbrev pub named_step : List Name → NumberedCmd-F Cmd → Cmd
-named_step names NumberedCmd-F.Skip = command.Skip
-named_step names (NumberedCmd-F.Set x e) = command.Set x.now e.now
-named_step names (NumberedCmd-F.Unset x) = command.Unset x.now
-named_step names (NumberedCmd-F.Store size a e) = command.Store size a.now e.now
-named_step names (NumberedCmd-F.Stackalloc x n body) = command.Stackalloc x.now n body
-named_step names (NumberedCmd-F.If e first second) = command.If e.now first second
-named_step names (NumberedCmd-F.While e body) = command.While e.now body
-named_step names (NumberedCmd-F.Seq body) = command.Seq body
-named_step names (NumberedCmd-F.Call at xs callee es) = command.Call at xs.now (target_name names callee) es.now
-named_step names (NumberedCmd-F.Interact at xs action es) = command.Interact at xs.now action.now es.now
+-- an expression, given those in it, where a function's variables have these names
+abbrev pub named_expr_step : List Name → NumberedExpr-F Expr → Expr
+named_expr_step own (NumberedExpr-F.Literal n) = expression.Literal n
+named_expr_step own (NumberedExpr-F.Var k) = expression.Var (name_at own k)
+named_expr_step own (NumberedExpr-F.Load size a) = expression.Load size a
+named_expr_step own (NumberedExpr-F.Table size bytes i) = expression.Table size bytes.now i
+named_expr_step own (NumberedExpr-F.Op o a b) = expression.Op o a b
+named_expr_step own (NumberedExpr-F.Ite test a b) = expression.Ite test a b
+
+-- the expression of the source
+abbrev pub named_expr : List Name → NumberedExpr → Expr
+named_expr own = fold-NumberedExpr Expr (named_expr_step own)
+
+abbrev pub named_exprs : List Name → List NumberedExpr → List Expr
+named_exprs own = map (named_expr own)
+
+-- a command, given those in it, where functions have these names and the variables of its own function those
+abbrev pub named_step : List Name → List Name → NumberedCmd-F Cmd → Cmd
+named_step names own NumberedCmd-F.Skip = command.Skip
+named_step names own (NumberedCmd-F.Set k e) = command.Set (name_at own k) (named_expr own e)
+named_step names own (NumberedCmd-F.Unset k) = command.Unset (name_at own k)
+named_step names own (NumberedCmd-F.Store size a e) = command.Store size (named_expr own a) (named_expr own e)
+named_step names own (NumberedCmd-F.Stackalloc k n body) = command.Stackalloc (name_at own k) n body
+named_step names own (NumberedCmd-F.If e first second) = command.If (named_expr own e) first second
+named_step names own (NumberedCmd-F.While e body) = command.While (named_expr own e) body
+named_step names own (NumberedCmd-F.Seq body) = command.Seq body
+named_step names own (NumberedCmd-F.Call at ks callee es) = command.Call at (names_at own ks) (target_name names callee) (named_exprs own es)
+named_step names own (NumberedCmd-F.Interact at ks action es) = command.Interact at (names_at own ks) action.now (named_exprs own es)
 
 -- the command of the source
-abbrev pub named_command : List Name → NumberedCmd → Cmd
-named_command names = fold-NumberedCmd Cmd (named_step names)
+abbrev pub named_command : List Name → List Name → NumberedCmd → Cmd
+named_command names own = fold-NumberedCmd Cmd (named_step names own)
 
-abbrev pub named_commands : List Name → List NumberedCmd → List Cmd
-named_commands names = map (named_command names)
+abbrev pub named_commands : List Name → List Name → List NumberedCmd → List Cmd
+named_commands names own = map (named_command names own)
+
+-- the names of the results of a function are those of the source
+abbrev pub HasSourceResults : NumberedFunc → Type 0
+HasSourceResults f = names_at (listed f.names.set) f.results ≡ f.func.now.results
 
 -- the function of the source
 abbrev pub named_function : List Name → NumberedFunc → Func
 named_function names f = record {
   at = f.func.now.at;
   name = f.func.now.name;
-  args = f.func.now.args;
-  results = f.func.now.results;
-  body = named_commands names f.body;
+  args = names_at (listed f.names.set) f.args;
+  results = names_at (listed f.names.set) f.results;
+  body = named_commands names (listed f.names.set) f.body;
 }

@@ -8,16 +8,31 @@ use Rattle.br_base.specs.declared.failure.OrMemory.TheVariants.{Memory, Fault}
 use Rattle.br_syntax.specs.declared.program.Func.{Func}
 use Rattle.br_source_meaning.specs.Runs.{State, End, Waiting, OutOfFuel, Undefined, NoChoice, Run, Goes, Ends, then_do, Callee, Returned, Returns, Stops}
 use Rattle.br_source_meaning.specs.Calls.{function_of}
+use Rattle.br_source_meaning.specs.Values.{Name, Locals}
+use Rattle.br_source_meaning.specs.Names.{listed}
 use Rattle.br_source_meaning.specs.Variables.{locals_of}
+use Rattle.br_source_meaning.specs.declared.variables.Variables.{Variables}
 use Rattle.br_source_meaning.specs.declared.held.Held.{Held}
 use Rattle.br_source_meaning.specs.declared.running.Stop.{Stop}
 use Rattle.br_source_meaning.specs.declared.running.Stop.TheVariants as stop
 use Rattle.br_source_meaning.specs.declared.running.Running.{Running}
 
+-- the names of variables, by their numbers
+abbrev pub names_of : Variables → List Name
+names_of v = listed v.names.now.set
+
+-- the variables that are set
+abbrev pub locals_in : Variables → Locals
+locals_in v = locals_of (names_of v) v.words
+
+-- the names of the variables of the function that runs
+abbrev pub own_of : Running → List Name
+own_of r = names_of r.variables
+
 -- the state that a run is in
 abbrev pub state_of : Running → State
 state_of r =
-    record { locals = locals_of r.variables.words; memory = r.memory; trace = r.trace; answers = r.answers.now; choices = r.choices.now; fuel = r.fuel }
+    record { locals = locals_in r.variables; memory = r.memory; trace = r.trace; answers = r.answers.now; choices = r.choices.now; fuel = r.fuel }
 
 abbrev pub end_of : Stop → End
 end_of (stop.Waiting a) = Waiting a

@@ -1,11 +1,14 @@
--- Variables as they are kept: by the bytes of their names, in order.
-use Rattle.std.specs.Prelude.{ℕ, List}
-use denote.Ref.{Bor}
-use Rattle.std.specs.Ordering.{nat_cmp}
-use Rattle.std.specs.Cmp.Lexicographic.{slice_cmp}
-use Rattle.std.specs.BTreeMap.{BTreeMap, get_by}
-use Rattle.br_source_meaning.specs.Values.{Locals}
+-- Variables as they are kept: for each name of a function a word, or nothing where the variable is not set.
+use Rattle.std.specs.Prelude.{ℕ, List, [], ◌∷◌, Option, None, if◌then◌else◌}
+use Rattle.std.specs.Str.{bytes_eq}
+use Rattle.br_source_meaning.specs.Values.{Name, Locals}
 
--- the variables that a map has
-abbrev pub locals_of : BTreeMap (Bor (List ℕ)) ℕ → Locals
-locals_of m x = get_by (λ k. slice_cmp nat_cmp x k.now) m
+-- a variable with this word, or not set
+abbrev pub with_word : Name → Option ℕ → Locals → Locals
+with_word x word locals y = if bytes_eq y x then word else locals y
+
+-- the variables that these names and words are
+abbrev pub locals_of : List Name → List (Option ℕ) → Locals
+locals_of [] words x = None
+locals_of (name ∷ names) [] x = None
+locals_of (name ∷ names) (word ∷ words) x = if bytes_eq x name then word else locals_of names words x

@@ -1,13 +1,14 @@
 // Commands by work that is pending: neither bodies nor calls are done by recursion.
 
-ghost use Rattle.std.specs.Prelude.{◌≡◌, ℕ, List, ◌+◌, ◌^◌, ◌<◌, IfOk};
+ghost use Rattle.std.specs.Prelude.{◌≡◌, ℕ, List, ◌+◌, ◌^◌, ◌<◌, IfOk, OnOk};
 ghost use Rattle.br_syntax.specs.declared.program.Cmd.TheVariants.{While};
 ghost use Rattle.br_bytes.specs.Left.{OnlyTakes};
 ghost use Rattle.br_source_meaning.specs.Runs.{Callee, Goes, run, run_all};
 ghost use Rattle.br_source_meaning.specs.Calls.{run_function};
-ghost use Rattle.br_source_meaning.specs.Numbered.{listed, named_command, named_commands, named_function, target_name};
-ghost use Rattle.br_source_meaning.specs.Running.{state_of, deep_calls, Leads, LeadsBack};
-ghost use Rattle.br_source_meaning.specs.Pending.{resume, finish, begins, LeavesWork, Resumes, Pauses, Starts, weight, frame_weight, weigh, room};
+ghost use Rattle.br_source_meaning.specs.Numbered.{named_expr, named_command, named_commands, named_function, target_name, HasSourceResults};
+ghost use Rattle.br_source_meaning.specs.Names.{listed};
+ghost use Rattle.br_source_meaning.specs.Running.{own_of, state_of, deep_calls, Leads, LeadsBack};
+ghost use Rattle.br_source_meaning.specs.Pending.{resume, after, finish, begins, LeavesWork, Resumes, Pauses, Starts, weight, frame_weight, weigh, room};
 ghost use Rattle.br_source_meaning.specs.declared.pending.Turn.TheVariants as turn;
 
 use crate::functions::Functions;
@@ -15,38 +16,39 @@ use crate::numbered::{NumberedCmd, Target};
 use crate::pending::{Block, Body, Frame, Looping, Turn, Work, lay_down};
 use crate::running::{Running, Stop};
 use crate::variables::Variables;
-use br_base::{Name, OrMemory};
+use br_base::OrMemory;
 use sqlite_items::Items;
 use std::alloc::Global;
 use std::mem;
 
-impl<'a> Running<'a> {
+impl<'x, 'a> Running<'x, 'a> {
     // A command as far as it goes at once, and what is left of it.
-    fn command<'x>(
+    fn command(
         &mut self,
         alloc: Global,
         c: &'x NumberedCmd<'a>,
     ) -> Result<Work<'x, 'a>, OrMemory<Stop>>
-        ensures leads { (names : List (List ℕ)) (call : Callee) → OnlyTakes call → LeavesWork result names call self.new (run call (named_command names c.now) (state_of self.old)) }
+        ensures leads { (names : List (List ℕ)) (call : Callee) → OnlyTakes call → LeavesWork result names call self.new (run call (named_command names (own_of self.old) c.now) (state_of self.old)) }
         ensures light { IfOk result (λ w. room w < weight c.now) }
         ensures fuel { self.new.fuel ≡ self.old.fuel }
+        ensures own { own_of self.new ≡ own_of self.old }
     {
         match c {
             NumberedCmd::Skip => Ok(Work::Done),
-            NumberedCmd::Set(x, e) => {
-                self.assign(*x, e)?;
+            NumberedCmd::Set(k, e) => {
+                self.assign(*k, e)?;
                 Ok(Work::Done)
             }
-            NumberedCmd::Unset(x) => {
-                self.variables.unset(x);
+            NumberedCmd::Unset(k) => {
+                self.variables.unset(*k);
                 Ok(Work::Done)
             }
             NumberedCmd::Store(size, a, e) => {
                 self.store(*size, a, e)?;
                 Ok(Work::Done)
             }
-            NumberedCmd::Stackalloc(x, n, body) => {
-                let held = self.take_buffer(*x, *n)?;
+            NumberedCmd::Stackalloc(k, n, body) => {
+                let held = self.take_buffer(*k, *n)?;
                 let body = Body {
                     commands: body.as_slice(),
                 };
@@ -59,10 +61,7 @@ impl<'a> Running<'a> {
             }
             NumberedCmd::While(test, body) => {
                 let commands = body.as_slice();
-                self.test(Looping {
-                    test: *test,
-                    commands,
-                })
+                self.test(Looping { test, commands })
             }
             NumberedCmd::Seq(body) => {
                 let commands = body.as_slice();
@@ -74,8 +73,8 @@ impl<'a> Running<'a> {
                 args,
                 ..
             } => {
-                let words = self.words(alloc, args)?;
-                Ok(Work::Turn(Turn::Call(*results, callee, words)))
+                let words = self.words(alloc, args.as_slice())?;
+                Ok(Work::Turn(Turn::Call(results.as_slice(), callee, words)))
             }
             NumberedCmd::Interact {
                 results,
@@ -83,16 +82,16 @@ impl<'a> Running<'a> {
                 args,
                 ..
             } => {
-                let words = self.words(alloc, args)?;
-                self.act(*results, action, words.as_slice())?;
+                let words = self.words(alloc, args.as_slice())?;
+                self.act(results.as_slice(), action, words.as_slice())?;
                 Ok(Work::Done)
             }
         }
     }
 
     // The test of a loop.
-    fn test<'x>(&self, turn: Looping<'x, 'a>) -> Result<Work<'x, 'a>, OrMemory<Stop>>
-        ensures leads { (names : List (List ℕ)) (call : Callee) → OnlyTakes call → LeavesWork result names call self.now (run call (While turn.entry.test.now (named_commands names turn.entry.commands.now)) (state_of self.now)) }
+    fn test(&self, turn: Looping<'x, 'a>) -> Result<Work<'x, 'a>, OrMemory<Stop>>
+        ensures leads { (names : List (List ℕ)) (call : Callee) → OnlyTakes call → LeavesWork result names call self.now (run call (While (named_expr (own_of self.now) turn.entry.test.now) (named_commands names (own_of self.now) turn.entry.commands.now)) (state_of self.now)) }
         ensures light { IfOk result (λ w. room w < 1) }
     {
         if self.word(turn.test)? == 0 {
@@ -103,15 +102,16 @@ impl<'a> Running<'a> {
     }
 
     // A frame as far as it goes at once, and what is left of it.
-    fn resume<'x>(
+    fn resume(
         &mut self,
         alloc: Global,
         pending: &mut Items<Frame<'x, 'a>>,
         frame: Frame<'x, 'a>,
     ) -> Result<Work<'x, 'a>, OrMemory<Stop>>
-        ensures leads { (names : List (List ℕ)) (call : Callee) → OnlyTakes call → Resumes result names call self.new pending.new pending.old (resume names call frame.entry (state_of self.old)) }
+        ensures leads { (names : List (List ℕ)) (call : Callee) → OnlyTakes call → Resumes result names call self.new pending.new pending.old (resume names (own_of self.old) call frame.entry (state_of self.old)) }
         ensures light { IfOk result (λ w. weigh pending.new + room w < weigh pending.old + frame_weight frame.entry) }
         ensures fuel { self.new.fuel ≡ self.old.fuel }
+        ensures own { OnOk result (own_of self.new ≡ after (own_of self.old) frame.entry) }
     {
         match frame {
             Frame::Body(body) => {
@@ -129,19 +129,19 @@ impl<'a> Running<'a> {
             Frame::Return { from, to, caller } => {
                 let words = self.results(alloc, from)?;
                 self.variables = caller;
-                self.variables.set_all(to, words.as_slice())?;
+                self.variables.set_all(to, words.as_slice());
                 Ok(Work::Done)
             }
         }
     }
 
     // Goes on with what is pending until nothing is, or what takes fuel comes next.
-    fn until_turn<'x>(
+    fn until_turn(
         &mut self,
         alloc: Global,
         pending: &mut Items<Frame<'x, 'a>>,
     ) -> Result<Option<Turn<'x, 'a>>, OrMemory<Stop>>
-        ensures pauses { (names : List (List ℕ)) (call : Callee) → OnlyTakes call → Pauses result names call self.new pending.new (finish names call pending.old (Goes (state_of self.old))) }
+        ensures pauses { (names : List (List ℕ)) (call : Callee) → OnlyTakes call → Pauses result names call self.new pending.new (finish names (own_of self.old) call pending.old (Goes (state_of self.old))) }
         ensures fuel { self.new.fuel ≡ self.old.fuel }
     {
         while let Some(frame) = pending.pop() {
@@ -154,27 +154,27 @@ impl<'a> Running<'a> {
     }
 
     // Enters a function by its name, with variables of its own.
-    fn enter<'x>(
+    fn enter(
         &mut self,
         alloc: Global,
         functions: &Functions<'x, 'a>,
         pending: &mut Items<Frame<'x, 'a>>,
-        to: &'a [Name],
+        to: &'x [usize],
         callee: &'x Target<'a>,
         words: Items<u32>,
     ) -> Result<(), OrMemory<Stop>>
         requires { self.old.fuel < 2 ^ 32 }
-        ensures starts { Starts result (listed functions.now.program.now.names.set) (deep_calls functions.now.funcs.now) self.new pending.new pending.old (begins (listed functions.now.program.now.names.set) (deep_calls functions.now.funcs.now) (turn.Call to.entry callee.entry words) (state_of self.old)) }
+        ensures starts { Starts result (listed functions.now.program.now.names.set) (own_of self.old) (deep_calls functions.now.funcs.now) self.new pending.new pending.old (begins (listed functions.now.program.now.names.set) (own_of self.old) (deep_calls functions.now.funcs.now) (turn.Call to.entry callee.entry words) (state_of self.old)) }
         ensures fuel { self.new.fuel ≡ self.old.fuel }
     {
         let Some(f) = functions.callee(callee) else {
             return Err(OrMemory::Fault(Stop::Undefined));
         };
-        let caller = mem::replace(&mut self.variables, Variables::new(alloc));
-        self.variables
-            .set_all(f.func.args.as_slice(), words.as_slice())?;
+        let variables = Variables::new(alloc, &f.names)?;
+        let caller = mem::replace(&mut self.variables, variables);
+        self.variables.set_all(f.args.as_slice(), words.as_slice());
         pending.push(Frame::Return {
-            from: f.func.results.as_slice(),
+            from: f.results.as_slice(),
             to,
             caller,
         })?;
@@ -185,7 +185,7 @@ impl<'a> Running<'a> {
     }
 
     // Begins what took fuel.
-    fn begin<'x>(
+    fn begin(
         &mut self,
         alloc: Global,
         functions: &Functions<'x, 'a>,
@@ -193,7 +193,7 @@ impl<'a> Running<'a> {
         turn: Turn<'x, 'a>,
     ) -> Result<(), OrMemory<Stop>>
         requires { self.old.fuel < 2 ^ 32 }
-        ensures starts { Starts result (listed functions.now.program.now.names.set) (deep_calls functions.now.funcs.now) self.new pending.new pending.old (begins (listed functions.now.program.now.names.set) (deep_calls functions.now.funcs.now) turn.entry (state_of self.old)) }
+        ensures starts { Starts result (listed functions.now.program.now.names.set) (own_of self.old) (deep_calls functions.now.funcs.now) self.new pending.new pending.old (begins (listed functions.now.program.now.names.set) (own_of self.old) (deep_calls functions.now.funcs.now) turn.entry (state_of self.old)) }
         ensures fuel { self.new.fuel ≡ self.old.fuel }
     {
         match turn {
@@ -210,13 +210,13 @@ impl<'a> Running<'a> {
     }
 
     // Runs commands in turn.
-    fn commands<'x>(
+    fn commands(
         &mut self,
         alloc: Global,
         functions: &Functions<'x, 'a>,
         cs: &'x [NumberedCmd<'a>],
     ) -> Result<(), OrMemory<Stop>>
-        ensures { Leads result self.new (run_all (deep_calls functions.now.funcs.now) (named_commands (listed functions.now.program.now.names.set) cs.now) (state_of self.old)) }
+        ensures { Leads result self.new (run_all (deep_calls functions.now.funcs.now) (named_commands (listed functions.now.program.now.names.set) (own_of self.old) cs.now) (state_of self.old)) }
     {
         let mut pending = Items::new(alloc);
         pending.push(Frame::Body(Body { commands: cs }))?;
@@ -231,15 +231,17 @@ impl<'a> Running<'a> {
     pub(crate) fn function(
         &mut self,
         alloc: Global,
-        functions: &Functions<'_, 'a>,
+        functions: &Functions<'x, 'a>,
         args: &[u32],
     ) -> Result<Items<u32>, OrMemory<Stop>>
+        requires { HasSourceResults functions.now.program.now.entry }
         ensures { LeadsBack result self.new (run_function (deep_calls functions.now.funcs.now) (named_function (listed functions.now.program.now.names.set) functions.now.program.now.entry) args.now (state_of self.old)) }
     {
         let f = &functions.program.entry;
-        self.variables = Variables::new(alloc);
-        self.variables.set_all(f.func.args.as_slice(), args)?;
+        let mut variables = Variables::new(alloc, &f.names)?;
+        variables.set_all(f.args.as_slice(), args);
+        self.variables = variables;
         self.commands(alloc, functions, f.body.as_slice())?;
-        self.results(alloc, f.func.results.as_slice())
+        self.named_results(alloc, f.func.results.as_slice())
     }
 }

@@ -6,7 +6,8 @@ ghost use Rattle.std.specs.HashMap.{get_by};
 ghost use Rattle.std.specs.Str.{bytes_eq};
 ghost use Rattle.std.proofs.Props.{props};
 ghost use Rattle.br_syntax.specs.Functions.{function_named};
-ghost use Rattle.br_source_meaning.specs.Numbered.{listed, named_function, target_name};
+ghost use Rattle.br_source_meaning.specs.Numbered.{named_function, target_name};
+ghost use Rattle.br_source_meaning.specs.Names.{listed};
 
 use crate::numbered::{NumberedFunc, Target};
 use crate::numbering::NumberedProgram;

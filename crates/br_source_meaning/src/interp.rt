@@ -79,7 +79,7 @@ impl<'a> Interp<'a> {
         let program = NumberedProgram::new(alloc, funcs, self.func)?;
         let functions = Functions::new(alloc, funcs, &program)?;
         let mut running = Running {
-            variables: Variables::new(alloc),
+            variables: Variables::new(alloc, &program.entry.names)?,
             memory: self.memory,
             trace: Items::new(alloc),
             answers: self.answers,

@@ -11,6 +11,7 @@ mod numbering;
 mod pending;
 mod running;
 mod values;
+mod variable_names;
 mod variables;
 
 pub use interp::{Finished, Interp};

@@ -1,12 +1,13 @@
-// Commands that name functions by numbers.
+// Commands that name functions and variables by numbers.
 
+use crate::variable_names::VariableNames;
 use br_base::Name;
-use br_syntax::{Expr, Func};
-use br_words::Size;
-use sqlite_items::Items;
+use br_syntax::Func;
+use br_words::{BinOp, Size};
+use sqlite_items::{Boxed, Items};
 
 /// The function that a call names.
-#[derive(Debug, Drop)]
+#[derive(Drop)]
 pub(crate) enum Target<'a> {
     /// The one with the name that has this number.
     Number(usize),
@@ -14,34 +15,48 @@ pub(crate) enum Target<'a> {
     Missing(&'a Name),
 }
 
-/// A command of the source, with a number in place of a callee's name.
-#[derive(Debug, Drop)]
+/// An expression of the source, with numbers in place of the names of variables.
+#[derive(Drop)]
+pub(crate) enum NumberedExpr<'a> {
+    Literal(u32),
+    Var(usize),
+    Load(Size, Boxed<NumberedExpr<'a>>),
+    Table(Size, &'a [u8], Boxed<NumberedExpr<'a>>),
+    Op(BinOp, Boxed<NumberedExpr<'a>>, Boxed<NumberedExpr<'a>>),
+    Ite(Boxed<NumberedExpr<'a>>, Boxed<NumberedExpr<'a>>, Boxed<NumberedExpr<'a>>),
+}
+
+/// A command of the source, with numbers in place of names.
+#[derive(Drop)]
 pub(crate) enum NumberedCmd<'a> {
     Skip,
-    Set(&'a Name, &'a Expr),
-    Unset(&'a Name),
-    Store(Size, &'a Expr, &'a Expr),
-    Stackalloc(&'a Name, u32, Items<NumberedCmd<'a>>),
-    If(&'a Expr, Items<NumberedCmd<'a>>, Items<NumberedCmd<'a>>),
-    While(&'a Expr, Items<NumberedCmd<'a>>),
+    Set(usize, NumberedExpr<'a>),
+    Unset(usize),
+    Store(Size, NumberedExpr<'a>, NumberedExpr<'a>),
+    Stackalloc(usize, u32, Items<NumberedCmd<'a>>),
+    If(NumberedExpr<'a>, Items<NumberedCmd<'a>>, Items<NumberedCmd<'a>>),
+    While(NumberedExpr<'a>, Items<NumberedCmd<'a>>),
     Seq(Items<NumberedCmd<'a>>),
     Call {
         at: u32,
-        results: &'a [Name],
+        results: Items<usize>,
         callee: Target<'a>,
-        args: &'a [Expr],
+        args: Items<NumberedExpr<'a>>,
     },
     Interact {
         at: u32,
-        results: &'a [Name],
+        results: Items<usize>,
         action: &'a Name,
-        args: &'a [Expr],
+        args: Items<NumberedExpr<'a>>,
     },
 }
 
-/// A function of the source, and its body with numbers.
-#[derive(Debug, Drop)]
+/// A function of the source, the names of its variables, and its parts with numbers.
+#[derive(Drop)]
 pub(crate) struct NumberedFunc<'a> {
     pub(crate) func: &'a Func,
+    pub(crate) names: VariableNames<'a>,
+    pub(crate) args: Items<usize>,
+    pub(crate) results: Items<usize>,
     pub(crate) body: Items<NumberedCmd<'a>>,
 }

@@ -1,13 +1,15 @@
-// Functions of the source with numbers in place of callees' names.
+// Functions of the source with numbers in place of names.
 
 ghost use Rattle.std.specs.Prelude.{◌≡◌, map, IfOk};
-ghost use Rattle.br_source_meaning.specs.Numbered.{listed, target_name, named_command, named_function};
+ghost use Rattle.br_source_meaning.specs.Names.{listed, names_at, Numbers};
+ghost use Rattle.br_source_meaning.specs.Numbered.{target_name, named_expr, named_exprs, named_command, named_commands, named_function, HasSourceResults};
 
-use crate::numbered::{NumberedCmd, NumberedFunc, Target};
+use crate::numbered::{NumberedCmd, NumberedExpr, NumberedFunc, Target};
+use crate::variable_names::VariableNames;
 use br_base::{Name, NoMemory};
-use br_syntax::{Cmd, Func};
+use br_syntax::{Cmd, Expr, Func};
 use indexmap::IndexSet;
-use sqlite_items::Items;
+use sqlite_items::{Boxed, Items};
 use std::alloc::Global;
 
 /// The names of functions, each of which has its place among them as its number.
@@ -37,7 +39,7 @@ impl<'a> Names<'a> {
     }
 }
 
-/// A program and the function that is called first, with numbers in place of callees' names.
+/// A program and the function that is called first, with numbers in place of names.
 #[derive(Drop)]
 pub(crate) struct NumberedProgram<'a> {
     pub(crate) names: Names<'a>,
@@ -53,6 +55,7 @@ impl<'a> NumberedProgram<'a> {
     ) -> Result<NumberedProgram<'a>, NoMemory>
         ensures funcs { IfOk result (λ p. map (named_function (listed p.names.set)) p.funcs ≡ funcs.now) }
         ensures entry { IfOk result (λ p. named_function (listed p.names.set) p.entry ≡ entry.now) }
+        ensures results { IfOk result (λ p. HasSourceResults p.entry) }
     {
         let names = Names::new(alloc, funcs)?;
         let funcs = functions(alloc, &names, funcs)?;
@@ -80,51 +83,150 @@ fn functions<'a>(
 }
 
 fn function<'a>(alloc: Global, names: &Names, func: &'a Func) -> Result<NumberedFunc<'a>, NoMemory>
-    ensures { IfOk result (λ f. named_function (listed names.now.set) f ≡ func.now) }
+    ensures named { IfOk result (λ f. named_function (listed names.now.set) f ≡ func.now) }
+    ensures results { IfOk result (λ f. HasSourceResults f) }
 {
-    let body = commands(alloc, names, func.body.as_slice())?;
-    Ok(NumberedFunc { func, body })
+    let mut own = VariableNames::new(alloc)?;
+    let args = variables(alloc, &mut own, func.args.as_slice())?;
+    let results = variables(alloc, &mut own, func.results.as_slice())?;
+    let body = commands(alloc, names, &mut own, func.body.as_slice())?;
+    Ok(NumberedFunc {
+        func,
+        names: own,
+        args,
+        results,
+        body,
+    })
+}
+
+fn variables<'a>(
+    alloc: Global,
+    own: &mut VariableNames<'a>,
+    xs: &'a [Name],
+) -> Result<Items<usize>, NoMemory>
+    ensures { IfOk result (λ ks. Numbers (listed own.old.set) (listed own.new.set) (λ later. names_at later ks) xs.now) }
+{
+    let mut numbered = Items::new(alloc);
+    for x in xs {
+        numbered.push(own.number(x)?)?;
+    }
+    Ok(numbered)
+}
+
+#[cycle(numbered_expression)]
+fn expression<'a>(
+    alloc: Global,
+    own: &mut VariableNames<'a>,
+    e: &'a Expr,
+) -> Result<NumberedExpr<'a>, NoMemory>
+    ensures { IfOk result (λ n. Numbers (listed own.old.set) (listed own.new.set) (λ later. named_expr later n) e.now) }
+{
+    match e {
+        Expr::Literal(n) => Ok(NumberedExpr::Literal(*n)),
+        Expr::Var(x) => Ok(NumberedExpr::Var(own.number(x)?)),
+        Expr::Load(size, a) => {
+            let a = boxed(alloc, own, a)?;
+            Ok(NumberedExpr::Load(*size, a))
+        }
+        Expr::Table(size, bytes, i) => {
+            let i = boxed(alloc, own, i)?;
+            Ok(NumberedExpr::Table(*size, bytes.as_slice(), i))
+        }
+        Expr::Op(o, a, b) => {
+            let a = boxed(alloc, own, a)?;
+            let b = boxed(alloc, own, b)?;
+            Ok(NumberedExpr::Op(*o, a, b))
+        }
+        Expr::Ite(test, a, b) => {
+            let test = boxed(alloc, own, test)?;
+            let a = boxed(alloc, own, a)?;
+            let b = boxed(alloc, own, b)?;
+            Ok(NumberedExpr::Ite(test, a, b))
+        }
+    }
+}
+
+#[cycle(numbered_expression)]
+fn boxed<'a>(
+    alloc: Global,
+    own: &mut VariableNames<'a>,
+    e: &'a Boxed<Expr>,
+) -> Result<Boxed<NumberedExpr<'a>>, NoMemory>
+    ensures { IfOk result (λ n. Numbers (listed own.old.set) (listed own.new.set) (λ later. named_expr later n) e.now) }
+{
+    Ok(Boxed::new(alloc, expression(alloc, own, e.get())?)?)
+}
+
+fn expressions<'a>(
+    alloc: Global,
+    own: &mut VariableNames<'a>,
+    es: &'a [Expr],
+) -> Result<Items<NumberedExpr<'a>>, NoMemory>
+    ensures { IfOk result (λ ns. Numbers (listed own.old.set) (listed own.new.set) (λ later. named_exprs later ns) es.now) }
+{
+    let mut numbered = Items::new(alloc);
+    for e in es {
+        numbered.push(expression(alloc, own, e)?)?;
+    }
+    Ok(numbered)
 }
 
 #[cycle(numbering)]
 fn commands<'a>(
     alloc: Global,
     names: &Names,
+    own: &mut VariableNames<'a>,
     cs: &'a [Cmd],
 ) -> Result<Items<NumberedCmd<'a>>, NoMemory>
-    ensures { IfOk result (λ ns. map (named_command (listed names.now.set)) ns ≡ cs.now) }
+    ensures { IfOk result (λ ns. Numbers (listed own.old.set) (listed own.new.set) (λ later. named_commands (listed names.now.set) later ns) cs.now) }
 {
     let mut numbered = Items::new(alloc);
     for c in cs {
-        numbered.push(command(alloc, names, c)?)?;
+        numbered.push(command(alloc, names, own, c)?)?;
     }
     Ok(numbered)
 }
 
 #[cycle(numbering)]
-fn command<'a>(alloc: Global, names: &Names, c: &'a Cmd) -> Result<NumberedCmd<'a>, NoMemory>
-    ensures { IfOk result (λ n. named_command (listed names.now.set) n ≡ c.now) }
+fn command<'a>(
+    alloc: Global,
+    names: &Names,
+    own: &mut VariableNames<'a>,
+    c: &'a Cmd,
+) -> Result<NumberedCmd<'a>, NoMemory>
+    ensures { IfOk result (λ n. Numbers (listed own.old.set) (listed own.new.set) (λ later. named_command (listed names.now.set) later n) c.now) }
 {
     match c {
         Cmd::Skip => Ok(NumberedCmd::Skip),
-        Cmd::Set(x, e) => Ok(NumberedCmd::Set(x, e)),
-        Cmd::Unset(x) => Ok(NumberedCmd::Unset(x)),
-        Cmd::Store(size, a, e) => Ok(NumberedCmd::Store(*size, a, e)),
+        Cmd::Set(x, e) => {
+            let k = own.number(x)?;
+            let e = expression(alloc, own, e)?;
+            Ok(NumberedCmd::Set(k, e))
+        }
+        Cmd::Unset(x) => Ok(NumberedCmd::Unset(own.number(x)?)),
+        Cmd::Store(size, a, e) => {
+            let a = expression(alloc, own, a)?;
+            let e = expression(alloc, own, e)?;
+            Ok(NumberedCmd::Store(*size, a, e))
+        }
         Cmd::Stackalloc(x, n, inner) => {
-            let body = commands(alloc, names, inner.as_slice())?;
-            Ok(NumberedCmd::Stackalloc(x, *n, body))
+            let k = own.number(x)?;
+            let body = commands(alloc, names, own, inner.as_slice())?;
+            Ok(NumberedCmd::Stackalloc(k, *n, body))
         }
         Cmd::If(e, first, second) => {
-            let taken = commands(alloc, names, first.as_slice())?;
-            let other = commands(alloc, names, second.as_slice())?;
+            let e = expression(alloc, own, e)?;
+            let taken = commands(alloc, names, own, first.as_slice())?;
+            let other = commands(alloc, names, own, second.as_slice())?;
             Ok(NumberedCmd::If(e, taken, other))
         }
         Cmd::While(e, inner) => {
-            let body = commands(alloc, names, inner.as_slice())?;
+            let e = expression(alloc, own, e)?;
+            let body = commands(alloc, names, own, inner.as_slice())?;
             Ok(NumberedCmd::While(e, body))
         }
         Cmd::Seq(inner) => {
-            let body = commands(alloc, names, inner.as_slice())?;
+            let body = commands(alloc, names, own, inner.as_slice())?;
             Ok(NumberedCmd::Seq(body))
         }
         Cmd::Call {
@@ -132,22 +234,30 @@ fn command<'a>(alloc: Global, names: &Names, c: &'a Cmd) -> Result<NumberedCmd<'
             results,
             callee,
             args,
-        } => Ok(NumberedCmd::Call {
-            at: *at,
-            results: results.as_slice(),
-            callee: names.target(callee),
-            args: args.as_slice(),
-        }),
+        } => {
+            let results = variables(alloc, own, results.as_slice())?;
+            let args = expressions(alloc, own, args.as_slice())?;
+            Ok(NumberedCmd::Call {
+                at: *at,
+                results,
+                callee: names.target(callee),
+                args,
+            })
+        }
         Cmd::Interact {
             at,
             results,
             action,
             args,
-        } => Ok(NumberedCmd::Interact {
-            at: *at,
-            results: results.as_slice(),
-            action,
-            args: args.as_slice(),
-        }),
+        } => {
+            let results = variables(alloc, own, results.as_slice())?;
+            let args = expressions(alloc, own, args.as_slice())?;
+            Ok(NumberedCmd::Interact {
+                at: *at,
+                results,
+                action,
+                args,
+            })
+        }
     }
 }

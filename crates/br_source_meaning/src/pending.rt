@@ -5,34 +5,33 @@ ghost use Rattle.br_source_meaning.specs.Runs.{State, Callee};
 ghost use Rattle.br_source_meaning.specs.Pending.{IsLaidDown, room, weigh};
 
 use crate::held::Held;
-use crate::numbered::{NumberedCmd, Target};
+use crate::numbered::{NumberedCmd, NumberedExpr, Target};
 use crate::variables::Variables;
-use br_base::{Name, NoMemory};
-use br_syntax::Expr;
+use br_base::NoMemory;
 use sqlite_items::Items;
 
 /// Commands in turn.
-#[derive(Debug, Drop)]
+#[derive(Drop)]
 pub(crate) struct Body<'x, 'a> {
     pub(crate) commands: &'x [NumberedCmd<'a>],
 }
 
 /// A loop, by its test and its body.
-#[derive(Debug, Drop)]
+#[derive(Drop)]
 pub(crate) struct Looping<'x, 'a> {
-    pub(crate) test: &'a Expr,
+    pub(crate) test: &'x NumberedExpr<'a>,
     pub(crate) commands: &'x [NumberedCmd<'a>],
 }
 
 /// The body of a buffer that is in memory.
-#[derive(Debug, Drop)]
+#[derive(Drop)]
 pub(crate) struct Block<'x, 'a> {
     pub(crate) held: Held,
     pub(crate) body: Body<'x, 'a>,
 }
 
 /// What is to be done after the command that runs.
-#[derive(Debug, Drop)]
+#[derive(Drop)]
 pub(crate) enum Frame<'x, 'a> {
     /// The rest of a body.
     Body(Body<'x, 'a>),
@@ -42,23 +41,23 @@ pub(crate) enum Frame<'x, 'a> {
     Leave(Held),
     /// The end of a call: results of the callee, and the caller's variables that they are for.
     Return {
-        from: &'a [Name],
-        to: &'a [Name],
-        caller: Variables<'a>,
+        from: &'x [usize],
+        to: &'x [usize],
+        caller: Variables<'x, 'a>,
     },
 }
 
 /// What takes a unit of fuel before it begins.
-#[derive(Debug, Drop)]
+#[derive(Drop)]
 pub(crate) enum Turn<'x, 'a> {
     /// A turn of a loop: its body, and the loop again.
     Loop(Looping<'x, 'a>),
     /// A call: the variables for its results, the callee, and the words of its arguments.
-    Call(&'a [Name], &'x Target<'a>, Items<u32>),
+    Call(&'x [usize], &'x Target<'a>, Items<u32>),
 }
 
 /// What is left of a command.
-#[derive(Debug, Drop)]
+#[derive(Drop)]
 pub(crate) enum Work<'x, 'a> {
     /// Nothing.
     Done,
@@ -75,7 +74,7 @@ pub(crate) fn lay_down<'x, 'a>(
     pending: &mut Items<Frame<'x, 'a>>,
     work: Work<'x, 'a>,
 ) -> Result<Option<Turn<'x, 'a>>, NoMemory>
-    ensures same { (names : List (List ℕ)) (call : Callee) (s : State) → IsLaidDown result names call pending.new pending.old work.entry s }
+    ensures same { (names own : List (List ℕ)) (call : Callee) (s : State) → IsLaidDown result names own call pending.new pending.old work.entry s }
     ensures light { IfOk result (λ _. weigh pending.new ≤ weigh pending.old + room work.entry) }
 {
     match work {

@@ -5,36 +5,37 @@ ghost use Rattle.std.specs.Option.{option_map};
 ghost use Rattle.br_words.specs.Size.{size_of};
 ghost use Rattle.br_bytes.specs.Buffers.{table_number};
 ghost use Rattle.br_source_meaning.specs.Values.{value, values};
-ghost use Rattle.br_source_meaning.specs.Variables.{locals_of};
+ghost use Rattle.br_source_meaning.specs.Numbered.{named_expr, named_exprs};
+ghost use Rattle.br_source_meaning.specs.Running.{names_of, locals_in};
 
+use crate::numbered::NumberedExpr;
 use crate::variables::Variables;
 use br_base::NoMemory;
 use br_bytes::ByteMap;
-use br_syntax::Expr;
 use br_words::{Size, op};
 use std::alloc::Global;
 
 /// The word that an expression stands for, where it stands for one.
-pub(crate) fn value(variables: &Variables, memory: &ByteMap, e: &Expr) -> Option<u32>
-    ensures { result ≡ value (locals_of variables.now.words) memory.now e.now }
+pub(crate) fn value(variables: &Variables, memory: &ByteMap, e: &NumberedExpr) -> Option<u32>
+    ensures { result ≡ value (locals_in variables.now) memory.now (named_expr (names_of variables.now) e.now) }
 {
     match e {
-        Expr::Literal(n) => Some(*n),
-        Expr::Var(x) => variables.get(x),
-        Expr::Load(size, a) => {
+        NumberedExpr::Literal(n) => Some(*n),
+        NumberedExpr::Var(k) => variables.get(*k),
+        NumberedExpr::Load(size, a) => {
             let a = value(variables, memory, a.get())?;
             memory.read(a, *size)
         }
-        Expr::Table(size, bytes, i) => {
+        NumberedExpr::Table(size, bytes, i) => {
             let i = value(variables, memory, i.get())?;
-            table_number(bytes.as_slice(), i, *size)
+            table_number(bytes, i, *size)
         }
-        Expr::Op(o, a, b) => {
+        NumberedExpr::Op(o, a, b) => {
             let a = value(variables, memory, a.get())?;
             let b = value(variables, memory, b.get())?;
             Some(op(*o, a, b))
         }
-        Expr::Ite(test, a, b) => {
+        NumberedExpr::Ite(test, a, b) => {
             if value(variables, memory, test.get())? == 0 {
                 value(variables, memory, b.get())
             } else {
@@ -73,9 +74,9 @@ pub(crate) fn values(
     alloc: Global,
     variables: &Variables,
     memory: &ByteMap,
-    es: &[Expr],
+    es: &[NumberedExpr],
 ) -> Result<Option<Vec<u32>>, NoMemory>
-    ensures { IfOk result (λ vs. option_map (λ v. v.items) vs ≡ values (locals_of variables.now.words) memory.now es.now) }
+    ensures { IfOk result (λ vs. option_map (λ v. v.items) vs ≡ values (locals_in variables.now) memory.now (named_exprs (names_of variables.now) es.now)) }
 {
     let mut words = Vec::new(alloc);
     for e in es {

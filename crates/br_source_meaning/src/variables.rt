@@ -1,60 +1,102 @@
 // The local variables of a function that runs.
 
-ghost use Rattle.std.specs.Prelude.{◌≡◌, OnOk};
+ghost use Rattle.std.specs.Prelude.{◌≡◌, ◌<◌, length, OnOk, IfOk};
+ghost use Rattle.std.specs.List.{IsDistinct, IsDistinct-prop};
+ghost use Rattle.std.specs.Str.{bytes_eq};
 ghost use Rattle.br_source_meaning.specs.Values.{with_local, without_local, no_locals};
 ghost use Rattle.br_source_meaning.specs.Runs.{with_locals};
-ghost use Rattle.br_source_meaning.specs.Variables.{locals_of};
+ghost use Rattle.br_source_meaning.specs.Names.{listed, name_at, names_at};
+ghost use Rattle.br_source_meaning.specs.Variables.{locals_of, with_word};
 
+use crate::variable_names::VariableNames;
 use br_base::{Name, NoMemory};
+use sqlite_items::Items;
 use std::alloc::Global;
-use std::collections::BTreeMap;
 
-/// Variables that are set, by the bytes of their names, and their words.
-#[derive(Debug, Drop)]
-pub(crate) struct Variables<'a> {
-    words: BTreeMap<&'a [u8], u32>,
+/// Variables by their numbers: the word of each, where it is set.
+#[derive(Drop)]
+pub(crate) struct Variables<'x, 'a> {
+    pub(crate) names: &'x VariableNames<'a>,
+    pub(crate) words: Items<Option<u32>>,
+    ghost distinct: { IsDistinct (λ x y. bytes_eq x.now y.now) names.now.set.keys } by { IsDistinct-prop (λ x y. bytes_eq x.now y.now) names.now.set.keys },
+    ghost same_length: { length words ≡ length names.now.set.keys },
 }
 
-impl<'a> Variables<'a> {
+impl<'x, 'a> Variables<'x, 'a> {
     /// None is set.
-    pub(crate) fn new(alloc: Global) -> Variables<'a>
-        ensures { locals_of result.words ≡ no_locals }
+    pub(crate) fn new(
+        alloc: Global,
+        names: &'x VariableNames<'a>,
+    ) -> Result<Variables<'x, 'a>, NoMemory>
+        ensures names { IfOk result (λ v. v.names.now ≡ names.now) }
+        ensures unset { IfOk result (λ v. locals_of (listed v.names.now.set) v.words ≡ no_locals) }
     {
-        Variables {
-            words: BTreeMap::new(alloc),
-        }
+        let mut words = Vec::new(alloc);
+        words.resize(names.set.len(), None)?;
+        Ok(Variables {
+            names,
+            words: Items::from_vec(words),
+        })
+    }
+
+    // The place of the word of a number.
+    fn place(&self, k: usize) -> usize
+        ensures within { result < length self.now.words }
+        ensures same { name_at (listed self.now.names.now.set) k ≡ name_at (listed self.now.names.now.set) result }
+    {
+        if k < self.words.len() { k } else { 0 }
     }
 
     /// The word of a variable, where it is set.
-    pub(crate) fn get(&self, x: &Name) -> Option<u32>
-        ensures { result ≡ locals_of self.now.words x.now }
+    pub(crate) fn get(&self, k: usize) -> Option<u32>
+        ensures { result ≡ locals_of (listed self.now.names.now.set) self.now.words (name_at (listed self.now.names.now.set) k) }
     {
-        self.words.get(x.bytes()).copied()
+        self.words.as_slice()[self.place(k)]
+    }
+
+    /// The word of the variable of a name, where it is set.
+    pub(crate) fn named(&self, x: &Name) -> Option<u32>
+        ensures { result ≡ locals_of (listed self.now.names.now.set) self.now.words x.now }
+    {
+        match self.names.set.get_index_of(x.bytes()) {
+            Some(k) => self.get(k),
+            None => None,
+        }
+    }
+
+    // Sets or removes a variable.
+    fn put(&mut self, k: usize, word: Option<u32>)
+        ensures names { self.new.names.now ≡ self.old.names.now }
+        ensures words { locals_of (listed self.old.names.now.set) self.new.words ≡ with_word (name_at (listed self.old.names.now.set) k) word (locals_of (listed self.old.names.now.set) self.old.words) }
+    {
+        let at = self.place(k);
+        self.words.set(at, word);
     }
 
     /// Sets a variable.
-    pub(crate) fn set(&mut self, x: &'a Name, v: u32) -> Result<(), NoMemory>
-        ensures { OnOk result (locals_of self.new.words ≡ with_local x.now v (locals_of self.old.words)) }
+    pub(crate) fn set(&mut self, k: usize, v: u32)
+        ensures names { self.new.names.now ≡ self.old.names.now }
+        ensures words { locals_of (listed self.old.names.now.set) self.new.words ≡ with_local (name_at (listed self.old.names.now.set) k) v (locals_of (listed self.old.names.now.set) self.old.words) }
     {
-        self.words.insert(x.bytes(), v)?;
-        Ok(())
+        self.put(k, Some(v));
     }
 
     /// Removes a variable, where it is set.
-    pub(crate) fn unset(&mut self, x: &Name)
-        ensures { locals_of self.new.words ≡ without_local x.now (locals_of self.old.words) }
+    pub(crate) fn unset(&mut self, k: usize)
+        ensures names { self.new.names.now ≡ self.old.names.now }
+        ensures words { locals_of (listed self.old.names.now.set) self.new.words ≡ without_local (name_at (listed self.old.names.now.set) k) (locals_of (listed self.old.names.now.set) self.old.words) }
     {
-        self.words.remove(x.bytes());
+        self.put(k, None);
     }
 
     /// Variables set to words in turn, as far as both lists go.
-    pub(crate) fn set_all(&mut self, xs: &'a [Name], vs: &[u32]) -> Result<(), NoMemory>
-        ensures { OnOk result (locals_of self.new.words ≡ with_locals xs.now vs.now (locals_of self.old.words)) }
+    pub(crate) fn set_all(&mut self, ks: &[usize], vs: &[u32])
+        ensures names { self.new.names.now ≡ self.old.names.now }
+        ensures words { locals_of (listed self.old.names.now.set) self.new.words ≡ with_locals (names_at (listed self.old.names.now.set) ks.now) vs.now (locals_of (listed self.old.names.now.set) self.old.words) }
     {
-        if let (Some((x, xs)), Some((v, vs))) = (xs.split_first(), vs.split_first()) {
-            self.set(x, *v)?;
-            self.set_all(xs, vs)?;
+        if let (Some((k, ks)), Some((v, vs))) = (ks.split_first(), vs.split_first()) {
+            self.set(*k, *v);
+            self.set_all(ks, vs);
         }
-        Ok(())
     }
 }

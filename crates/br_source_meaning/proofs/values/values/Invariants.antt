@@ -2,10 +2,11 @@
 use Rattle.std.proofs.Common.{◌≡◌, ◌++◌, drop}
 use Rattle.std.specs.Option.{option_map}
 use Rattle.br_source_meaning.specs.Values.{values}
-use Rattle.br_source_meaning.specs.Variables.{locals_of}
+use Rattle.br_source_meaning.specs.Numbered.{named_exprs}
+use Rattle.br_source_meaning.specs.Running.{names_of, locals_in}
 use Rattle.br_source_meaning.proofs.values.values.Given as goal
 
 abbrev pub invariant-loop-e : goal.invariant-loop-e
 invariant-loop-e l =
-    values (locals_of l.variables.words) l.memory l.es
-    ≡ option_map (λ vs. l.words.items ++ vs) (values (locals_of l.variables.words) l.memory (drop l.e-index l.es))
+    values (locals_in l.variables) l.memory (named_exprs (names_of l.variables) l.es)
+    ≡ option_map (λ vs. l.words.items ++ vs) (values (locals_in l.variables) l.memory (named_exprs (names_of l.variables) (drop l.e-index l.es)))

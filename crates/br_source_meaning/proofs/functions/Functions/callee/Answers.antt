@@ -1,7 +1,8 @@
 use Rattle.std.proofs.Common.{◌≡◌, slice_get, Some, None, [], get_or, sym, ap, ◌∙◌, arith}
 use Rattle.std.proofs.lemmas.Grind.{common_steps}
 use Rattle.br_syntax.specs.Functions.{function_named}
-use Rattle.br_source_meaning.specs.Numbered.{listed, target_name}
+use Rattle.br_source_meaning.specs.Names.{listed}
+use Rattle.br_source_meaning.specs.Numbered.{target_name}
 use Rattle.br_source_meaning.proofs.Numbers.{by-number, past-numbers}
 use Rattle.br_source_meaning.proofs.functions.Functions.callee.Goals as goal
 

@@ -5,7 +5,8 @@ use Rattle.std.specs.Str.{bytes_eq}
 use Rattle.std.proofs.lemmas.Grind.{common_steps}
 use Rattle.std.proofs.lemmas.Map.Text.{hash_map_updates_str}
 use Rattle.br_syntax.specs.Functions.{function_named}
-use Rattle.br_source_meaning.specs.Numbered.{listed, named_function}
+use Rattle.br_source_meaning.specs.Names.{listed}
+use Rattle.br_source_meaning.specs.Numbered.{named_function}
 use Rattle.br_source_meaning.proofs.Numbers.{numbered-more}
 use Rattle.br_source_meaning.proofs.Named.{known-more, known-all}
 use Rattle.br_source_meaning.proofs.functions.Functions.new.Goals as goal

@@ -4,7 +4,8 @@ use Rattle.std.specs.Option.{option_copied, option_map}
 use Rattle.std.specs.HashMap.{get_by}
 use Rattle.std.specs.Str.{bytes_eq}
 use Rattle.br_syntax.specs.Functions.{function_named}
-use Rattle.br_source_meaning.specs.Numbered.{listed, named_function}
+use Rattle.br_source_meaning.specs.Names.{listed}
+use Rattle.br_source_meaning.specs.Numbered.{named_function}
 use Rattle.br_source_meaning.proofs.functions.Functions.new.Given as goal
 
 abbrev pub invariant-loop-i : goal.invariant-loop-i

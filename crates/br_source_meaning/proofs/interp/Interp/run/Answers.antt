@@ -1,8 +1,9 @@
-use Rattle.std.proofs.Common.{◌≡◌, [], sym, ap, ◌∙◌, arith}
+use Rattle.std.proofs.Common.{◌≡◌, [], sym, ap, subst, ◌∙◌, arith}
 use Rattle.br_source_meaning.specs.Values.{no_locals}
 use Rattle.br_source_meaning.specs.Runs.{State, Returns, Stops}
 use Rattle.br_source_meaning.specs.Calls.{run_function, seen}
-use Rattle.br_source_meaning.specs.Numbered.{listed, named_function}
+use Rattle.br_source_meaning.specs.Names.{listed}
+use Rattle.br_source_meaning.specs.Numbered.{named_function, HasSourceResults}
 use Rattle.br_source_meaning.specs.declared.numbering.NumberedProgram.{NumberedProgram}
 use Rattle.br_source_meaning.specs.Running.{state_of, end_of, deep_calls}
 use Rattle.br_source_meaning.proofs.Deep.{deep-function}
@@ -28,3 +29,6 @@ returns c =
           let ran : run_function (deep_calls c.args.self.program.now.funcs) c.args.self.func.now c.args.self.args.now start ≡ Stops (end_of w.in-Err-Fault.stop) (state_of c.function.new.self) = begun ∙ (rw w.in-Err-Fault.field-0-is at w.in-Err-Fault.ensures) in
           ap (λ o. record { outcome = o; trace = c.function.new.self.trace; memory = c.function.new.self.memory }) (w.outcome-is ∙ w.outcome_at-outcome.ensures) ∙ (sym (ap seen ran) ∙ same)
     ]
+
+pub function-requires : goal.function-requires
+function-requires c = subst (λ (p : NumberedProgram). HasSourceResults p.entry) (sym c.in_ok-functions.ensures.program) c.in_ok-program.ensures.results
