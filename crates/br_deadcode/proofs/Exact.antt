@@ -44,9 +44,11 @@ apart a (x ∷ xs) z none h =
         absurd (cc (ap a same, gone, h))
 
 -- what is live after an idle statement is live before it
-pub idle-needs : {X : Type 0} (y : Stmt-F X) (a : Names) → is_idle y a ≡ true → Within a (union (without a (written y)) (is_in (read y)))
+pub idle-needs : {X : Type 0} (y : Stmt-F X) (a : Names) → is_idle y a ≡ true
+    → Within a (union (without a (written y)) (is_in (read y)))
 idle-needs y a h z alive =
-    let none : list_any a (written y) ≡ false = not_true (list_any a (written y)) (and-second (is_removable y) (not (list_any a (written y))) h) in
+    let none : list_any a (written y) ≡ false = not_true (list_any a (written y))
+    (and-second (is_removable y) (not (list_any a (written y))) h) in
     or_left (a z && not (is_in (written y) z)) (is_in (read y) z)
     (both_and (a z) (not (is_in (written y) z)) alive (ap not (apart a (written y) z none alive)))
 
@@ -86,16 +88,21 @@ each-shrinks [] a = within-itself a
 each-shrinks (e ∷ cs) a =
     let inner : Names = before_left (stmts cs) a in
     let outer : Names = before_all (stmts cs) a in
-    within-trans ((sweep e.0).before inner) (before e.0 inner) (before e.0 outer) (e.1 inner) (grows-before e.0 inner outer (each-shrinks cs a))
+    within-trans ((sweep e.0).before inner) (before e.0 inner) (before e.0 outer) (e.1 inner)
+    (grows-before e.0 inner outer (each-shrinks cs a))
 
 abbrev opened : Stmt-F Each → Stmt-F Stmt
 opened y = map-Stmt Each Stmt (λ e. e.0) y
 
 abbrev ShrinksStep : Names → Stmt-F Stmt → Type 0
-ShrinksStep a z = Within ((sweep_step (map-Stmt Stmt Swept sweep z)).before a) (before_step (map-Stmt Stmt Live live z) a)
+ShrinksStep a z =
+    Within ((sweep_step (map-Stmt Stmt Swept sweep z)).before a) (before_step (map-Stmt Stmt Live live z) a)
 
-simple-shrinks : {X : Type 0} (y : Stmt-F X) (a : Names) → Within (if is_idle y a then a else union (without a (written y)) (is_in (read y))) (union (without a (written y)) (is_in (read y)))
-simple-shrinks y a = within-choice (is_idle y a) a (union (without a (written y)) (is_in (read y))) (λ e. idle-needs y a e)
+simple-shrinks : {X : Type 0} (y : Stmt-F X) (a : Names)
+    → Within (if is_idle y a then a else union (without a (written y)) (is_in (read y)))
+    (union (without a (written y)) (is_in (read y)))
+simple-shrinks y a =
+    within-choice (is_idle y a) a (union (without a (written y)) (is_in (read y))) (λ e. idle-needs y a e)
 
 step-shrinks : (y : Stmt-F Each) (a : Names) → ShrinksStep a (opened y)
 step-shrinks (Stmt-F.Lit x n) a = simple-shrinks {X = Swept} (Stmt-F.Lit x n) a
@@ -110,20 +117,26 @@ step-shrinks (Stmt-F.Write y z) a = simple-shrinks {X = Swept} (Stmt-F.Write y z
 step-shrinks (Stmt-F.Stackalloc x n body) a =
     within-without (before_left (stmts body) a) (before_all (stmts body) a) (x ∷ []) (each-shrinks body a)
 step-shrinks (Stmt-F.If test first second) a =
-    within-union (is_in (test_names test)) (is_in (test_names test)) (union (before_left (stmts first) a) (before_left (stmts second) a)) (union (before_all (stmts first) a) (before_all (stmts second) a))
+    within-union (is_in (test_names test)) (is_in (test_names test))
+    (union (before_left (stmts first) a) (before_left (stmts second) a))
+    (union (before_all (stmts first) a) (before_all (stmts second) a))
     (within-itself (is_in (test_names test)))
-    (within-union (before_left (stmts first) a) (before_all (stmts first) a) (before_left (stmts second) a) (before_all (stmts second) a) (each-shrinks first a) (each-shrinks second a))
+    (within-union (before_left (stmts first) a) (before_all (stmts first) a) (before_left (stmts second) a)
+    (before_all (stmts second) a) (each-shrinks first a) (each-shrinks second a))
 step-shrinks (Stmt-F.Loop first test last) a =
-    subst (λ fs. Within (before_left (stmts first) (at_test fs test (lives_in (map sweep (stmts last))) a)) (before_all (stmts first) (at_test (map live (stmts first)) test (map live (stmts last)) a)))
+    subst (λ fs. Within (before_left (stmts first) (at_test fs test (lives_in (map sweep (stmts last))) a))
+    (before_all (stmts first) (at_test (map live (stmts first)) test (map live (stmts last)) a)))
     (sym (lives-all (stmts first)))
-    (subst (λ ls. Within (before_left (stmts first) (at_test (map live (stmts first)) test ls a)) (before_all (stmts first) (at_test (map live (stmts first)) test (map live (stmts last)) a)))
+    (subst (λ ls. Within (before_left (stmts first) (at_test (map live (stmts first)) test ls a))
+    (before_all (stmts first) (at_test (map live (stmts first)) test (map live (stmts last)) a)))
     (sym (lives-all (stmts last)))
     (each-shrinks first (at_test (map live (stmts first)) test (map live (stmts last)) a)))
 
 pub shrinks : (c : Stmt) → Shrinks c
 shrinks = ind-Stmt Shrinks (λ x y is a.
     subst (λ (s : Swept). Within (s.before a) (before (roll-Stmt x) a)) (sym (fold-roll-Stmt Swept sweep_step x))
-    (subst (λ (l : Live). Within ((sweep_step (map-Stmt Stmt Swept sweep x)).before a) (l.before a)) (sym (fold-roll-Stmt Live live_step x))
+    (subst (λ (l : Live). Within ((sweep_step (map-Stmt Stmt Swept sweep x)).before a) (l.before a))
+    (sym (fold-roll-Stmt Live live_step x))
     (subst (ShrinksStep a) is (step-shrinks y a))))
 
 pub shrinks-all : (cs : List Stmt) (a : Names) → Within (before_left cs a) (before_all cs a)
@@ -131,11 +144,13 @@ shrinks-all [] a = within-itself a
 shrinks-all (c ∷ cs) a =
     let inner : Names = before_left cs a in
     let outer : Names = before_all cs a in
-    within-trans ((sweep c).before inner) (before c inner) (before c outer) (shrinks c inner) (grows-before c inner outer (shrinks-all cs a))
+    within-trans ((sweep c).before inner) (before c inner) (before c outer) (shrinks c inner)
+    (grows-before c inner outer (shrinks-all cs a))
 
 -- ---- where nothing is left out
 
-any-append : {X : Type 0} (p : X → Bool) (xs ys : List X) → list_any p xs ≡ false → list_any p ys ≡ false → list_any p (xs ++ ys) ≡ false
+any-append : {X : Type 0} (p : X → Bool) (xs ys : List X) → list_any p xs ≡ false → list_any p ys ≡ false
+    → list_any p (xs ++ ys) ≡ false
 any-append p [] ys h k = k
 any-append p (x ∷ xs) ys h k =
     let split = or-none (p x) (list_any p xs) h in
@@ -155,7 +170,8 @@ Both = (c : Stmt) × Exact c
 abbrev those : List Both → List Stmt
 those cs = map (λ e. e.0) cs
 
-two-alive : (c : Stmt) (cs : List Stmt) (a : Names) → Alive (before_left cs a) (before_all cs a) (moments (map live cs) a)
+two-alive : (c : Stmt) (cs : List Stmt) (a : Names)
+    → Alive (before_left cs a) (before_all cs a) (moments (map live cs) a)
     → Alive ((sweep c).before (before_left cs a)) (before c (before_left cs a)) ((live c).moments (before_left cs a))
     → Alive (before_left (c ∷ cs) a) (before_all (c ∷ cs) a) (moments (map live (c ∷ cs)) a)
 two-alive c cs a rest one = record {
@@ -164,7 +180,8 @@ two-alive c cs a rest one = record {
       (subst (λ e. list_any is_dead ((live c).moments e) ≡ false) rest.same one.none) rest.none;
 }
 
-each-exact : (cs : List Both) (a : Names) → leaves_of (those cs) a ≡ false → Alive (before_left (those cs) a) (before_all (those cs) a) (moments (map live (those cs)) a)
+each-exact : (cs : List Both) (a : Names) → leaves_of (those cs) a ≡ false
+    → Alive (before_left (those cs) a) (before_all (those cs) a) (moments (map live (those cs)) a)
 each-exact [] a h = record { same = refl; none = refl }
 each-exact (e ∷ cs) a h =
     let split = or-none (leaves_of (those cs) a) ((sweep e.0).leaves_out (before_left (those cs) a)) h in
@@ -176,7 +193,8 @@ unfolded y = map-Stmt Both Stmt (λ e. e.0) y
 abbrev ExactStep : Names → Stmt-F Stmt → Type 0
 ExactStep a z =
     (sweep_step (map-Stmt Stmt Swept sweep z)).leaves_out a ≡ false
-    → Alive ((sweep_step (map-Stmt Stmt Swept sweep z)).before a) (before_step (map-Stmt Stmt Live live z) a) ((live_step (map-Stmt Stmt Live live z)).moments a)
+    → Alive ((sweep_step (map-Stmt Stmt Swept sweep z)).before a) (before_step (map-Stmt Stmt Live live z) a)
+    ((live_step (map-Stmt Stmt Live live z)).moments a)
 
 -- a statement with no parts that is not idle
 simple-same : (b : Bool) (a k : Names) → (b || false) ≡ false → (if b then a else k) ≡ k
@@ -187,12 +205,22 @@ simple-same false a k h = refl
 abbrev LoopExact : List Both → Cond → List Both → Names → List Live → List Live → Type 0
 LoopExact first test last a fs ls =
     let t : Names = at_test (map live (those first)) test (map live (those last)) a in
-    (leaves_of (those last) (entry fs (at_test fs test ls a)) || leaves_of (those first) (at_test fs test ls a)) ≡ false
+    (leaves_of (those last) (entry fs (at_test fs test ls a)) || leaves_of (those first) (at_test fs test ls a))
+    ≡ false
     → Alive (before_left (those first) (at_test fs test ls a)) (before_all (those first) t)
-    (record { written = []; callees = []; is_removable = false; is_copy = false; after = a; after_write = a; test = t }
+    (record {
+      written = [];
+      callees = [];
+      is_removable = false;
+      is_copy = false;
+      after = a;
+      after_write = a;
+      test = t;
+    }
     ∷ (moments (map live (those first)) t ++ moments (map live (those last)) (before_all (those first) t)))
 
-loop-exact : (first : List Both) (test : Cond) (last : List Both) (a : Names) → LoopExact first test last a (map live (those first)) (map live (those last))
+loop-exact : (first : List Both) (test : Cond) (last : List Both) (a : Names)
+    → LoopExact first test last a (map live (those first)) (map live (those last))
 loop-exact first test last a h =
     let t : Names = at_test (map live (those first)) test (map live (those last)) a in
     let split = or-none (leaves_of (those last) (before_all (those first) t)) (leaves_of (those first) t) h in
@@ -200,15 +228,41 @@ loop-exact first test last a h =
     let two = each-exact last (before_all (those first) t) split.0 in
     record {
       same = one.same;
-      none = any-append is_dead (moments (map live (those first)) t) (moments (map live (those last)) (before_all (those first) t)) one.none two.none;
+      none = any-append is_dead (moments (map live (those first)) t)
+          (moments (map live (those last)) (before_all (those first) t)) one.none two.none;
     }
 
 step-exact : (y : Stmt-F Both) (a : Names) → ExactStep a (unfolded y)
-step-exact (Stmt-F.Lit x n) a h = record { same = simple-same (is_idle {X = Swept} (Stmt-F.Lit x n) a) a (union (without a (x ∷ [])) (is_in [])) h; none = h }
-step-exact (Stmt-F.Copy x y) a h = record { same = simple-same (is_idle {X = Swept} (Stmt-F.Copy x y) a) a (union (without a (x ∷ [])) (is_in (y ∷ []))) h; none = h }
-step-exact (Stmt-F.Op x op y z) a h = record { same = simple-same (is_idle {X = Swept} (Stmt-F.Op x op y z) a) a (union (without a (x ∷ [])) (is_in (read {X = Swept} (Stmt-F.Op x op y z)))) h; none = h }
-step-exact (Stmt-F.Load x size y offset) a h = record { same = simple-same (is_idle {X = Swept} (Stmt-F.Load x size y offset) a) a (union (without a (x ∷ [])) (is_in (y ∷ []))) h; none = h }
-step-exact (Stmt-F.Table x size bytes y) a h = record { same = simple-same (is_idle {X = Swept} (Stmt-F.Table x size bytes y) a) a (union (without a (x ∷ [])) (is_in (y ∷ []))) h; none = h }
+step-exact (Stmt-F.Lit x n) a h =
+    record {
+      same = simple-same (is_idle {X = Swept} (Stmt-F.Lit x n) a) a
+          (union (without a (x ∷ [])) (is_in [])) h;
+      none = h;
+    }
+step-exact (Stmt-F.Copy x y) a h =
+    record {
+      same = simple-same (is_idle {X = Swept} (Stmt-F.Copy x y) a) a
+          (union (without a (x ∷ [])) (is_in (y ∷ []))) h;
+      none = h;
+    }
+step-exact (Stmt-F.Op x op y z) a h =
+    record {
+      same = simple-same (is_idle {X = Swept} (Stmt-F.Op x op y z) a) a
+          (union (without a (x ∷ [])) (is_in (read {X = Swept} (Stmt-F.Op x op y z)))) h;
+      none = h;
+    }
+step-exact (Stmt-F.Load x size y offset) a h =
+    record {
+      same = simple-same (is_idle {X = Swept} (Stmt-F.Load x size y offset) a) a
+          (union (without a (x ∷ [])) (is_in (y ∷ []))) h;
+      none = h;
+    }
+step-exact (Stmt-F.Table x size bytes y) a h =
+    record {
+      same = simple-same (is_idle {X = Swept} (Stmt-F.Table x size bytes y) a) a
+          (union (without a (x ∷ [])) (is_in (y ∷ []))) h;
+      none = h;
+    }
 step-exact (Stmt-F.Store size y z offset) a h = record { same = refl; none = refl }
 step-exact (Stmt-F.Call xs g ys) a h = record { same = refl; none = refl }
 step-exact (Stmt-F.Read x y) a h = record { same = refl; none = refl }
@@ -224,21 +278,26 @@ step-exact (Stmt-F.If test first second) a h =
       same =
           ap (λ e. union (is_in (test_names test)) (union e (before_left (those second) a))) one.same
           ∙ ap (λ e. union (is_in (test_names test)) (union (before_all (those first) a) e)) two.same;
-      none = any-append is_dead (moments (map live (those first)) a) (moments (map live (those second)) a) one.none two.none;
+      none = any-append is_dead (moments (map live (those first)) a)
+          (moments (map live (those second)) a) one.none two.none;
     }
 step-exact (Stmt-F.Loop first test last) a h =
     subst (λ fs. LoopExact first test last a fs (lives_in (map sweep (those last)))) (sym (lives-all (those first)))
-    (subst (λ ls. LoopExact first test last a (map live (those first)) ls) (sym (lives-all (those last))) (loop-exact first test last a))
+    (subst (λ ls. LoopExact first test last a (map live (those first)) ls) (sym (lives-all (those last)))
+    (loop-exact first test last a))
     h
 
 exact : (c : Stmt) → Exact c
 exact = ind-Stmt Exact (λ x y is a h.
     let left = ap (λ (s : Swept). s.leaves_out a) (fold-roll-Stmt Swept sweep_step x) in
     let step = subst (ExactStep a) is (step-exact y a) (sym left ∙ h) in
-    subst (λ (s : Swept). Alive (s.before a) (before (roll-Stmt x) a) ((live (roll-Stmt x)).moments a)) (sym (fold-roll-Stmt Swept sweep_step x))
-    (subst (λ (l : Live). Alive ((sweep_step (map-Stmt Stmt Swept sweep x)).before a) (l.before a) (l.moments a)) (sym (fold-roll-Stmt Live live_step x)) step))
+    subst (λ (s : Swept). Alive (s.before a) (before (roll-Stmt x) a) ((live (roll-Stmt x)).moments a))
+    (sym (fold-roll-Stmt Swept sweep_step x))
+    (subst (λ (l : Live). Alive ((sweep_step (map-Stmt Stmt Swept sweep x)).before a) (l.before a) (l.moments a))
+    (sym (fold-roll-Stmt Live live_step x)) step))
 
-exact-all : (cs : List Stmt) (a : Names) → leaves_of cs a ≡ false → Alive (before_left cs a) (before_all cs a) (moments (map live cs) a)
+exact-all : (cs : List Stmt) (a : Names) → leaves_of cs a ≡ false
+    → Alive (before_left cs a) (before_all cs a) (moments (map live cs) a)
 exact-all [] a h = record { same = refl; none = refl }
 exact-all (c ∷ cs) a h =
     let split = or-none (leaves_of cs a) ((sweep c).leaves_out (before_left cs a)) h in

@@ -44,17 +44,20 @@ abbrev stmts : List Each → List Stmt
 stmts cs = map (λ e. e.0) cs
 
 next-falls : (c : Stmt) (cs : List Stmt) (a : Names) → counts (left_of cs a) + more (leaves_of cs a) ≤ counts cs
-    → left_count ((sweep c).left (before_left cs a)) + more ((sweep c).leaves_out (before_left cs a)) ≤ statement_count c
+    → left_count ((sweep c).left (before_left cs a)) + more
+    ((sweep c).leaves_out (before_left cs a)) ≤ statement_count c
     → counts (left_of (c ∷ cs) a) + more (leaves_of (c ∷ cs) a) ≤ counts (c ∷ cs)
 next-falls c cs a rest one =
     let b : Names = before_left cs a in
     let o : Option Stmt = (sweep c).left b in
     let put_is = counts-put o (left_of cs a) in
     let whole = sum_cons (statement_count c) (map statement_count cs) in
-    let both = more-or (leaves_of cs a) ((sweep c).leaves_out b) (counts (left_of cs a)) (left_count o) (counts cs) (statement_count c) rest one in
+    let both = more-or (leaves_of cs a) ((sweep c).leaves_out b) (counts (left_of cs a)) (left_count o) (counts cs)
+    (statement_count c) rest one in
     omega (arith, put_is, whole, both)
 
-each-falls : (cs : List Each) (a : Names) → counts (left_of (stmts cs) a) + more (leaves_of (stmts cs) a) ≤ counts (stmts cs)
+each-falls : (cs : List Each) (a : Names)
+    → counts (left_of (stmts cs) a) + more (leaves_of (stmts cs) a) ≤ counts (stmts cs)
 each-falls [] a = omega arith
 each-falls (e ∷ cs) a = next-falls e.0 (stmts cs) a (each-falls cs a) (e.1 (before_left (stmts cs) a))
 
@@ -81,7 +84,8 @@ one-part : (n k : ℕ) (b : Bool) → n + more b ≤ k → (1 + (0 + n)) + more 
 one-part n k true h = omega arith
 one-part n k false h = omega arith
 
-two-parts : (m n k l : ℕ) (a b : Bool) → m + more a ≤ k → n + more b ≤ l → (1 + ((0 + m) + n)) + more (b || a) ≤ 1 + ((0 + k) + l)
+two-parts : (m n k l : ℕ) (a b : Bool) → m + more a ≤ k → n + more b ≤ l
+    → (1 + ((0 + m) + n)) + more (b || a) ≤ 1 + ((0 + k) + l)
 two-parts m n k l true true h g = omega arith
 two-parts m n k l true false h g = omega arith
 two-parts m n k l false true h g = omega arith
@@ -100,25 +104,31 @@ step-falls (Stmt-F.Write y z) a = simple-falls false
 step-falls (Stmt-F.Stackalloc x n body) a =
     one-part (counts (left_of (stmts body) a)) (counts (stmts body)) (leaves_of (stmts body) a) (each-falls body a)
 step-falls (Stmt-F.If test first second) a =
-    two-parts (counts (left_of (stmts first) a)) (counts (left_of (stmts second) a)) (counts (stmts first)) (counts (stmts second)) (leaves_of (stmts first) a) (leaves_of (stmts second) a)
+    two-parts (counts (left_of (stmts first) a)) (counts (left_of (stmts second) a)) (counts (stmts first))
+    (counts (stmts second)) (leaves_of (stmts first) a) (leaves_of (stmts second) a)
     (each-falls first a) (each-falls second a)
 step-falls (Stmt-F.Loop first test last) a =
     let t : Names = swept_test (map sweep (stmts first)) test (map sweep (stmts last)) a in
     let s : Names = swept_start (map sweep (stmts first)) test (map sweep (stmts last)) a in
-    two-parts (counts (left_of (stmts first) t)) (counts (left_of (stmts last) s)) (counts (stmts first)) (counts (stmts last)) (leaves_of (stmts first) t) (leaves_of (stmts last) s)
+    two-parts (counts (left_of (stmts first) t)) (counts (left_of (stmts last) s)) (counts (stmts first))
+    (counts (stmts last)) (leaves_of (stmts first) t) (leaves_of (stmts last) s)
     (each-falls first t) (each-falls last s)
 
 -- what is left, as a number
-left-choice : (b : Bool) (z : Stmt-F Stmt) → left_count (if b then None else Some (roll-Stmt z)) ≡ (if b then 0 else counted z)
+left-choice : (b : Bool) (z : Stmt-F Stmt)
+    → left_count (if b then None else Some (roll-Stmt z)) ≡ (if b then 0 else counted z)
 left-choice true z = refl
 left-choice false z = fold-roll-Stmt ℕ count_step z
 
 falls : (c : Stmt) → Falls c
 falls = ind-Stmt Falls (λ x y is a.
     let w : Stmt-F Swept = map-Stmt Stmt Swept sweep x in
-    subst (λ (s : Swept). left_count (s.left a) + more (s.leaves_out a) ≤ statement_count (roll-Stmt x)) (sym (fold-roll-Stmt Swept sweep_step x))
-    (subst (λ n. n + more (is_idle w a || inner_left_out w a) ≤ statement_count (roll-Stmt x)) (sym (left-choice (is_idle w a) (kept w a)))
-    (subst (λ n. (if is_idle w a then 0 else counted (kept w a)) + more (is_idle w a || inner_left_out w a) ≤ n) (sym (fold-roll-Stmt ℕ count_step x))
+    subst (λ (s : Swept). left_count (s.left a) + more (s.leaves_out a) ≤ statement_count (roll-Stmt x))
+    (sym (fold-roll-Stmt Swept sweep_step x))
+    (subst (λ n. n + more (is_idle w a || inner_left_out w a) ≤ statement_count (roll-Stmt x))
+    (sym (left-choice (is_idle w a) (kept w a)))
+    (subst (λ n. (if is_idle w a then 0 else counted (kept w a)) + more (is_idle w a || inner_left_out w a) ≤ n)
+    (sym (fold-roll-Stmt ℕ count_step x))
     (subst (FallsStep a) is (step-falls y a)))))
 
 falls-all : (cs : List Stmt) (a : Names) → counts (left_of cs a) + more (leaves_of cs a) ≤ counts cs
@@ -138,7 +148,8 @@ more-first false false m n k l h g = omega arith
 program-falls : (fs : List FlatFunc) → program_count (swept_program fs) + more (program_leaves fs) ≤ program_count fs
 program-falls [] = omega arith
 program-falls (f ∷ fs) =
-    let both = more-first (function_leaves f) (program_leaves fs) (function_count (swept_function f)) (program_count (swept_program fs)) (function_count f) (program_count fs)
+    let both = more-first (function_leaves f) (program_leaves fs) (function_count (swept_function f))
+    (program_count (swept_program fs)) (function_count f) (program_count fs)
     (falls-all f.body (is_in f.results)) (program-falls fs) in
     let left = sum_cons (function_count (swept_function f)) (map function_count (swept_program fs)) in
     let whole = sum_cons (function_count f) (map function_count fs) in
@@ -147,6 +158,7 @@ program-falls (f ∷ fs) =
 pub fewer : (fs : List FlatFunc) → program_leaves fs ≡ true → program_count (swept_program fs) < program_count fs
 fewer fs h = by (program_leaves fs) h (program-falls fs)
   where
-    by : (b : Bool) → b ≡ true → program_count (swept_program fs) + more b ≤ program_count fs → program_count (swept_program fs) < program_count fs
+    by : (b : Bool) → b ≡ true → program_count (swept_program fs) + more b ≤ program_count fs
+        → program_count (swept_program fs) < program_count fs
     by true e k = omega arith
     by false e k = absurd (cc e)

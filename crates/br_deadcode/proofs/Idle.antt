@@ -50,12 +50,14 @@ pub idle-load : (x : ℕ) (size : Size) (y : ℕ) (offset : ℤ) (a : Names) →
 idle-load x size y offset a =
     of (Stmt-F.Load x size y offset) (Load x size y offset) a (rolls-Load x size y offset) ∙ one (a x)
 
-pub idle-table : (x : ℕ) (size : Size) (bytes : List ℕ) (y : ℕ) (a : Names) → idle (Table x size bytes y) a ≡ not (a x)
+pub idle-table : (x : ℕ) (size : Size) (bytes : List ℕ) (y : ℕ) (a : Names)
+    → idle (Table x size bytes y) a ≡ not (a x)
 idle-table x size bytes y a =
     of (Stmt-F.Table x size bytes y) (Table x size bytes y) a (rolls-Table x size bytes y) ∙ one (a x)
 
 pub idle-store : (size : Size) (y z : ℕ) (offset : ℤ) (a : Names) → idle (Store size y z offset) a ≡ false
-idle-store size y z offset a = of (Stmt-F.Store size y z offset) (Store size y z offset) a (rolls-Store size y z offset)
+idle-store size y z offset a =
+    of (Stmt-F.Store size y z offset) (Store size y z offset) a (rolls-Store size y z offset)
 
 pub idle-stackalloc : (x n : ℕ) (body : List Stmt) (a : Names) → idle (Stackalloc x n body) a ≡ false
 idle-stackalloc x n body a = of (Stmt-F.Stackalloc x n body) (Stackalloc x n body) a (rolls-Stackalloc x n body)
@@ -63,7 +65,8 @@ idle-stackalloc x n body a = of (Stmt-F.Stackalloc x n body) (Stackalloc x n bod
 pub idle-if : (test : Cond) (first second : List Stmt) (a : Names) → idle (If test first second) a ≡ false
 idle-if test first second a = of (Stmt-F.If test first second) (If test first second) a (rolls-If test first second)
 
-pub idle-loop : (first : List Stmt) (test : Cond) (last : List Stmt) (a : Names) → idle (Loop first test last) a ≡ false
+pub idle-loop : (first : List Stmt) (test : Cond) (last : List Stmt) (a : Names)
+    → idle (Loop first test last) a ≡ false
 idle-loop first test last a = of (Stmt-F.Loop first test last) (Loop first test last) a (rolls-Loop first test last)
 
 pub idle-call : (xs : List ℕ) (g : ℕ) (ys : List ℕ) (a : Names) → idle (Call xs g ys) a ≡ false

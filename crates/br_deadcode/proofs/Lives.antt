@@ -16,7 +16,8 @@ known_each (e ∷ cs) =
     ∙ ap (λ (ls : List Live). live e.0 ∷ ls) (known_each cs)
 
 known_step : (y : Stmt-F Known) →
-    live_step (map-Stmt Swept Live (λ (c : Swept). c.live) (map-Stmt Stmt Swept sweep (map-Stmt Known Stmt (λ e. e.0) y)))
+    live_step (map-Stmt Swept Live (λ (c : Swept). c.live)
+    (map-Stmt Stmt Swept sweep (map-Stmt Known Stmt (λ e. e.0) y)))
     ≡ live_step (map-Stmt Stmt Live live (map-Stmt Known Stmt (λ e. e.0) y))
 known_step (Stmt-F.Lit x n) = refl
 known_step (Stmt-F.Copy x y) = refl
@@ -24,12 +25,15 @@ known_step (Stmt-F.Op x op y z) = refl
 known_step (Stmt-F.Load x size y offset) = refl
 known_step (Stmt-F.Store size y z offset) = refl
 known_step (Stmt-F.Table x size bytes y) = refl
-known_step (Stmt-F.Stackalloc x n body) = ap (λ (ls : List Live). live_step (Stmt-F.Stackalloc x n ls)) (known_each body)
+known_step (Stmt-F.Stackalloc x n body) =
+    ap (λ (ls : List Live). live_step (Stmt-F.Stackalloc x n ls)) (known_each body)
 known_step (Stmt-F.If test first second) =
-    ap (λ (ls : List Live). live_step (Stmt-F.If test ls (lives_in (map sweep (map (λ e. e.0) second))))) (known_each first)
+    ap (λ (ls : List Live). live_step (Stmt-F.If test ls (lives_in (map sweep (map (λ e. e.0) second)))))
+    (known_each first)
     ∙ ap (λ (ls : List Live). live_step (Stmt-F.If test (map live (map (λ e. e.0) first)) ls)) (known_each second)
 known_step (Stmt-F.Loop first test last) =
-    ap (λ (ls : List Live). live_step (Stmt-F.Loop ls test (lives_in (map sweep (map (λ e. e.0) last))))) (known_each first)
+    ap (λ (ls : List Live). live_step (Stmt-F.Loop ls test (lives_in (map sweep (map (λ e. e.0) last)))))
+    (known_each first)
     ∙ ap (λ (ls : List Live). live_step (Stmt-F.Loop (map live (map (λ e. e.0) first)) test ls)) (known_each last)
 known_step (Stmt-F.Call xs g ys) = refl
 known_step (Stmt-F.Read x y) = refl
@@ -37,7 +41,9 @@ known_step (Stmt-F.Write y z) = refl
 
 pub sweep-live : (c : Stmt) → (sweep c).live ≡ live c
 sweep-live = ind-Stmt (λ c. (sweep c).live ≡ live c) (λ x y is.
-    let step = subst (λ z. live_step (map-Stmt Swept Live (λ (c : Swept). c.live) (map-Stmt Stmt Swept sweep z)) ≡ live_step (map-Stmt Stmt Live live z)) is (known_step y) in
+    let step = subst (λ z. live_step
+    (map-Stmt Swept Live (λ (c : Swept). c.live) (map-Stmt Stmt Swept sweep z)) ≡ live_step
+    (map-Stmt Stmt Live live z)) is (known_step y) in
     ap (λ (c : Swept). c.live) (fold-roll-Stmt Swept sweep_step x) ∙ step ∙ sym (fold-roll-Stmt Live live_step x))
 
 pub lives-all : (cs : List Stmt) → lives_in (map sweep cs) ≡ map live cs

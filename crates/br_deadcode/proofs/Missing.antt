@@ -57,7 +57,8 @@ or-second : (a b : Bool) → (a || b) ≡ false → b ≡ false
 or-second true b h = absurd (cc h)
 or-second false b h = h
 
-put-misses : (o : Option Stmt) (ds : List Stmt) (left : List Shown) → missed (shown_of o) left ≡ false → misses_after (front (shown_of o) left) (map shown ds) ≡ false → misses_after left (map shown (put o ds)) ≡ false
+put-misses : (o : Option Stmt) (ds : List Stmt) (left : List Shown) → missed (shown_of o) left ≡ false
+    → misses_after (front (shown_of o) left) (map shown ds) ≡ false → misses_after left (map shown (put o ds)) ≡ false
 put-misses None ds left h k = k
 put-misses (Some c) ds left h k = rw (h, k) refl
 
@@ -66,8 +67,10 @@ next-fine c cs one rest a left all agree none =
     let b : Names = before_left cs a in
     let o : Option Stmt = (sweep c).left b in
     let it = one b left all agree in
-    let here = or-first (is_missed (shown c).operand all || (shown c).misses) (misses_after (shown c ∷ all) (map shown cs)) none in
-    let there = or-second (is_missed (shown c).operand all || (shown c).misses) (misses_after (shown c ∷ all) (map shown cs)) none in
+    let here = or-first (is_missed (shown c).operand all || (shown c).misses)
+    (misses_after (shown c ∷ all) (map shown cs)) none in
+    let there = or-second (is_missed (shown c).operand all || (shown c).misses)
+    (misses_after (shown c ∷ all) (map shown cs)) none in
     put-misses o (left_of cs a) left (it.none here) (rest a (front (shown_of o) left) (shown c ∷ all) it.after there)
 
 abbrev Each : Type 0
@@ -81,7 +84,8 @@ each-fine [] a left all agree none = refl
 each-fine (e ∷ cs) a left all agree none = next-fine e.0 (stmts cs) e.1 (each-fine cs) a left all agree none
 
 -- a part, before which nothing stands
-part-fine : (cs : List Each) (a : Names) → misses_after [] (map shown (stmts cs)) ≡ false → misses_after [] (map shown (left_of (stmts cs) a)) ≡ false
+part-fine : (cs : List Each) (a : Names) → misses_after [] (map shown (stmts cs)) ≡ false
+    → misses_after [] (map shown (left_of (stmts cs) a)) ≡ false
 part-fine cs a none = each-fine cs a [] [] (λ y alive. refl) none
 
 abbrev opened : Stmt-F Each → Stmt-F Stmt
@@ -92,19 +96,23 @@ opened y = map-Stmt Each Stmt (λ e. e.0) y
 abbrev KeptFine : Names → Stmt-F Stmt → Type 0
 KeptFine a z =
     (left all : List Shown) → AgreeOn (before_kept (map-Stmt Stmt Swept sweep z) a) left all
-    → Passes a (Some (shown_step (map-Stmt Stmt Shown shown (kept (map-Stmt Stmt Swept sweep z) a)))) (shown_step (map-Stmt Stmt Shown shown z)) left all
+    → Passes a (Some (shown_step (map-Stmt Stmt Shown shown (kept (map-Stmt Stmt Swept sweep z) a))))
+    (shown_step (map-Stmt Stmt Shown shown z)) left all
 
 -- after the same statement the same literals are found
-same-after : (s : Shown) (a : Names) (left all : List Shown) → AgreeOn (without a s.written) left all → AgreeOn a (s ∷ left) (s ∷ all)
+same-after : (s : Shown) (a : Names) (left all : List Shown) → AgreeOn (without a s.written) left all
+    → AgreeOn a (s ∷ left) (s ∷ all)
 same-after s a left all agree y alive = by (is_in s.written y) refl
   where
     by : (b : Bool) → is_in s.written y ≡ b → literal_of y (s ∷ left) ≡ literal_of y (s ∷ all)
     by true e = rw e refl
     by false e =
-        let same : literal_of y left ≡ literal_of y all = agree y (both_and (a y) (not (is_in s.written y)) alive (ap not e)) in
+        let same : literal_of y left ≡ literal_of y all = agree y
+        (both_and (a y) (not (is_in s.written y)) alive (ap not e)) in
         ap (λ o. if s.is_straight then (if is_in s.written y then s.literal else o) else None) same
 
-operand-same : (y : Stmt-F Shown) (left all : List Shown) → AgreeOn (is_in (read y)) left all → is_missed (name_operand y) left ≡ is_missed (name_operand y) all
+operand-same : (y : Stmt-F Shown) (left all : List Shown) → AgreeOn (is_in (read y)) left all
+    → is_missed (name_operand y) left ≡ is_missed (name_operand y) all
 operand-same (Stmt-F.Op x op y (operand.Name z)) left all agree =
     ap (fits_literal op) (agree z (is_in-tail y z (z ∷ []) (is_in-head z [])))
 operand-same (Stmt-F.Op x op y (operand.Const c)) left all agree = refl
@@ -121,13 +129,15 @@ operand-same (Stmt-F.Read x y) left all agree = refl
 operand-same (Stmt-F.Write y z) left all agree = refl
 
 -- a statement with no parts
-simple-fine : (y : Stmt-F Shown) (a : Names) (left all : List Shown) → AgreeOn (union (without a (written y)) (is_in (read y))) left all
+simple-fine : (y : Stmt-F Shown) (a : Names) (left all : List Shown)
+    → AgreeOn (union (without a (written y)) (is_in (read y))) left all
     → Passes a (Some (shown_step y)) (shown_step y) left all
 simple-fine y a left all agree =
     let same : is_missed (name_operand y) left ≡ is_missed (name_operand y) all =
     operand-same y left all (λ z i. agree z (or_right (without a (written y) z) (is_in (read y) z) i)) in
     record {
-      after = same-after (shown_step y) a left all (λ z i. agree z (or_left (without a (written y) z) (is_in (read y) z) i));
+      after = same-after (shown_step y) a left all
+          (λ z i. agree z (or_left (without a (written y) z) (is_in (read y) z) i));
       none = λ h. ap (λ b. b || (shown_step y).misses) same ∙ h;
     }
 
@@ -135,7 +145,8 @@ one-part : (a b : Bool) → (a ≡ false → b ≡ false) → (a || false) ≡ f
 one-part true b k h = absurd (cc h)
 one-part false b k h = rw (k refl) refl
 
-two-parts : (a b c d : Bool) → (a ≡ false → c ≡ false) → (b ≡ false → d ≡ false) → (a || (b || false)) ≡ false → (c || (d || false)) ≡ false
+two-parts : (a b c d : Bool) → (a ≡ false → c ≡ false) → (b ≡ false → d ≡ false) → (a || (b || false)) ≡ false
+    → (c || (d || false)) ≡ false
 two-parts true b c d k l h = absurd (cc h)
 two-parts false true c d k l h = absurd (cc h)
 two-parts false false c d k l h = rw (k refl, l refl) refl
@@ -145,18 +156,21 @@ kept-fine (Stmt-F.Lit x n) a left all agree = simple-fine (Stmt-F.Lit x n) a lef
 kept-fine (Stmt-F.Copy x y) a left all agree = simple-fine (Stmt-F.Copy x y) a left all agree
 kept-fine (Stmt-F.Op x op y z) a left all agree = simple-fine (Stmt-F.Op x op y z) a left all agree
 kept-fine (Stmt-F.Load x size y offset) a left all agree = simple-fine (Stmt-F.Load x size y offset) a left all agree
-kept-fine (Stmt-F.Store size y z offset) a left all agree = simple-fine (Stmt-F.Store size y z offset) a left all agree
+kept-fine (Stmt-F.Store size y z offset) a left all agree =
+    simple-fine (Stmt-F.Store size y z offset) a left all agree
 kept-fine (Stmt-F.Table x size bytes y) a left all agree = simple-fine (Stmt-F.Table x size bytes y) a left all agree
 kept-fine (Stmt-F.Call xs g ys) a left all agree = simple-fine (Stmt-F.Call xs g ys) a left all agree
 kept-fine (Stmt-F.Read x y) a left all agree = simple-fine (Stmt-F.Read x y) a left all agree
 kept-fine (Stmt-F.Write y z) a left all agree = simple-fine (Stmt-F.Write y z) a left all agree
 kept-fine (Stmt-F.Stackalloc x n body) a left all agree = record {
   after = λ y alive. refl;
-  none = one-part (misses_after [] (map shown (stmts body))) (misses_after [] (map shown (left_of (stmts body) a))) (part-fine body a);
+  none = one-part (misses_after [] (map shown (stmts body))) (misses_after [] (map shown (left_of (stmts body) a)))
+      (part-fine body a);
 }
 kept-fine (Stmt-F.If test first second) a left all agree = record {
   after = λ y alive. refl;
-  none = two-parts (misses_after [] (map shown (stmts first))) (misses_after [] (map shown (stmts second))) (misses_after [] (map shown (left_of (stmts first) a))) (misses_after [] (map shown (left_of (stmts second) a)))
+  none = two-parts (misses_after [] (map shown (stmts first))) (misses_after [] (map shown (stmts second)))
+      (misses_after [] (map shown (left_of (stmts first) a))) (misses_after [] (map shown (left_of (stmts second) a)))
       (part-fine first a) (part-fine second a);
 }
 kept-fine (Stmt-F.Loop first test last) a left all agree =
@@ -164,7 +178,8 @@ kept-fine (Stmt-F.Loop first test last) a left all agree =
     let s : Names = swept_start (map sweep (stmts first)) test (map sweep (stmts last)) a in
     record {
       after = λ y alive. refl;
-      none = two-parts (misses_after [] (map shown (stmts first))) (misses_after [] (map shown (stmts last))) (misses_after [] (map shown (left_of (stmts first) t))) (misses_after [] (map shown (left_of (stmts last) s)))
+      none = two-parts (misses_after [] (map shown (stmts first))) (misses_after [] (map shown (stmts last)))
+          (misses_after [] (map shown (left_of (stmts first) t))) (misses_after [] (map shown (left_of (stmts last) s)))
           (part-fine first t) (part-fine last s);
     }
 
@@ -188,22 +203,26 @@ and-first : (a b : Bool) → (a && b) ≡ true → a ≡ true
 and-first true b e = refl
 and-first false b e = absurd (cc e)
 
-idle-fine : (y : Stmt-F Shown) (a : Names) (left all : List Shown) → is_idle y a ≡ true → AgreeOn a left all → Passes a None (shown_step y) left all
+idle-fine : (y : Stmt-F Shown) (a : Names) (left all : List Shown) → is_idle y a ≡ true → AgreeOn a left all
+    → Passes a None (shown_step y) left all
 idle-fine y a left all idle agree = record {
   after = λ z alive.
       let removable : is_removable y ≡ true = and-first (is_removable y) (not (list_any a (written y))) idle in
-      let none : list_any a (written y) ≡ false = not_true (list_any a (written y)) (and-second (is_removable y) (not (list_any a (written y))) idle) in
+      let none : list_any a (written y) ≡ false = not_true (list_any a (written y))
+      (and-second (is_removable y) (not (list_any a (written y))) idle) in
       let other : is_in (written y) z ≡ false = apart a (written y) z none alive in
       agree z alive
       ∙ ap (λ b. if b then literal y else literal_of z all) (sym other)
-      ∙ ap (λ b. if b then (if is_in (written y) z then literal y else literal_of z all) else None) (sym (straight y removable));
+      ∙ ap (λ b. if b then (if is_in (written y) z then literal y else literal_of z all) else None)
+      (sym (straight y removable));
   none = λ h. refl;
 }
 
 -- ---- statements in turn, and functions
 
 choice-fine : (x z : Stmt-F Stmt) (a b : Names) (i : Bool) → (i ≡ true → is_idle x a ≡ true)
-    → ((left all : List Shown) → AgreeOn b left all → Passes a (Some (shown_step (map-Stmt Stmt Shown shown z))) (shown_step (map-Stmt Stmt Shown shown x)) left all)
+    → ((left all : List Shown) → AgreeOn b left all
+    → Passes a (Some (shown_step (map-Stmt Stmt Shown shown z))) (shown_step (map-Stmt Stmt Shown shown x)) left all)
     → (left all : List Shown) → AgreeOn (if i then a else b) left all
     → Passes a (shown_of (if i then None else Some (roll-Stmt z))) (shown (roll-Stmt x)) left all
 choice-fine x z a b true idle kept left all agree =
@@ -211,13 +230,15 @@ choice-fine x z a b true idle kept left all agree =
     (idle-fine (map-Stmt Stmt Shown shown x) a left all (idle-map shown x a ∙ idle refl) agree)
 choice-fine x z a b false idle kept left all agree =
     subst (λ (s : Shown). Passes a (Some (shown (roll-Stmt z))) s left all) (sym (fold-roll-Stmt Shown shown_step x))
-    (subst (λ (s : Shown). Passes a (Some s) (shown_step (map-Stmt Stmt Shown shown x)) left all) (sym (fold-roll-Stmt Shown shown_step z))
+    (subst (λ (s : Shown). Passes a (Some s) (shown_step (map-Stmt Stmt Shown shown x)) left all)
+    (sym (fold-roll-Stmt Shown shown_step z))
     (kept left all agree))
 
 statement-fine : (c : Stmt) → Fine c
 statement-fine = ind-Stmt Fine (λ x y is a left all.
     let w : Stmt-F Swept = map-Stmt Stmt Swept sweep x in
-    subst (λ (c : Swept). AgreeOn (c.before a) left all → Passes a (shown_of (c.left a)) (shown (roll-Stmt x)) left all) (sym (fold-roll-Stmt Swept sweep_step x))
+    subst (λ (c : Swept). AgreeOn (c.before a) left all
+    → Passes a (shown_of (c.left a)) (shown (roll-Stmt x)) left all) (sym (fold-roll-Stmt Swept sweep_step x))
     (choice-fine x (kept w a) a (before_kept w a) (is_idle w a) (λ e. sym (idle-map sweep x a) ∙ e)
     (subst (KeptFine a) is (kept-fine y a)) left all))
 
@@ -227,7 +248,8 @@ all-fine (c ∷ cs) a left all agree none = next-fine c cs (statement-fine c) (a
 
 misses-no_more : (f : FlatFunc) → MissesNoMore (swept_function f) f
 misses-no_more f h =
-    ap not (all-fine f.body (is_in f.results) [] [] (λ y alive. refl) (not_true (misses_after [] (map shown f.body)) h))
+    ap not (all-fine f.body (is_in f.results) [] [] (λ y alive. refl)
+    (not_true (misses_after [] (map shown f.body)) h))
 
 pub sweep-misses_no_more : (fs : List FlatFunc) → InPairs MissesNoMore (swept_program fs) fs
 sweep-misses_no_more [] = tt

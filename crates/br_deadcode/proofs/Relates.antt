@@ -13,14 +13,18 @@ use Rattle.br_deadcode.specs.Sweeps.{is_idle, Swept, put, swept_test, swept_star
 
 -- A relation of what a fold by `g` makes of a statement that is left and of the statement itself, and one of
 -- lists of these: a removable statement may be missing, and statements with parts go by their parts.
-pub record Relation {X : Type 0} (g : Stmt-F X → X) (one : X → X → Type 0) (all : List X → List X → Type 0) : Type 0 where
+pub record Relation {X : Type 0} (g : Stmt-F X → X) (one : X → X → Type 0)
+    (all : List X → List X → Type 0) : Type 0 where
   pub same : (x : X) → one x x
   pub nil : all [] []
   pub cons : (x y : X) (xs ys : List X) → one x y → all xs ys → all (x ∷ xs) (y ∷ ys)
   pub skip : (y : Stmt-F X) (xs ys : List X) → is_removable y ≡ true → all xs ys → all xs (g y ∷ ys)
-  pub buffer : (x n : ℕ) (xs ys : List X) → all xs ys → one (g (Stmt-F.Stackalloc x n xs)) (g (Stmt-F.Stackalloc x n ys))
-  pub choice : (test : Cond) (xs ys us vs : List X) → all xs ys → all us vs → one (g (Stmt-F.If test xs us)) (g (Stmt-F.If test ys vs))
-  pub turns : (test : Cond) (xs ys us vs : List X) → all xs ys → all us vs → one (g (Stmt-F.Loop xs test us)) (g (Stmt-F.Loop ys test vs))
+  pub buffer : (x n : ℕ) (xs ys : List X) → all xs ys
+      → one (g (Stmt-F.Stackalloc x n xs)) (g (Stmt-F.Stackalloc x n ys))
+  pub choice : (test : Cond) (xs ys us vs : List X) → all xs ys → all us vs
+      → one (g (Stmt-F.If test xs us)) (g (Stmt-F.If test ys vs))
+  pub turns : (test : Cond) (xs ys us vs : List X) → all xs ys → all us vs
+      → one (g (Stmt-F.Loop xs test us)) (g (Stmt-F.Loop ys test vs))
 
 and-first : (a b : Bool) → (a && b) ≡ true → a ≡ true
 and-first true b e = refl
@@ -55,11 +59,13 @@ Each g all = (c : Stmt) × LeftOf g all c
 abbrev stmts : {X : Type 0} (g : Stmt-F X → X) (all : List X → List X → Type 0) → List (Each g all) → List Stmt
 stmts g all cs = map (λ e. e.0) cs
 
-each-left : {X : Type 0} (g : Stmt-F X → X) (one : X → X → Type 0) (all : List X → List X → Type 0) → Relation g one all → (cs : List (Each g all)) (a : Names)
+each-left : {X : Type 0} (g : Stmt-F X → X) (one : X → X → Type 0) (all : List X → List X → Type 0)
+    → Relation g one all → (cs : List (Each g all)) (a : Names)
     → all (map (fold-Stmt X g) (left_of (stmts g all cs) a)) (map (fold-Stmt X g) (stmts g all cs))
 each-left g one all r [] a = r.nil
 each-left {X} g one all r (e ∷ cs) a =
-    e.1 (before_left (stmts g all cs) a) (left_of (stmts g all cs) a) (map (fold-Stmt X g) (stmts g all cs)) (each-left g one all r cs a)
+    e.1 (before_left (stmts g all cs) a) (left_of (stmts g all cs) a) (map (fold-Stmt X g) (stmts g all cs))
+    (each-left g one all r cs a)
 
 abbrev opened : {X : Type 0} (g : Stmt-F X → X) (all : List X → List X → Type 0) → Stmt-F (Each g all) → Stmt-F Stmt
 opened g all y = map-Stmt (Each g all) Stmt (λ e. e.0) y
@@ -67,9 +73,11 @@ opened g all y = map-Stmt (Each g all) Stmt (λ e. e.0) y
 -- the fold of one that is kept
 abbrev KeptStep : {X : Type 0} (g : Stmt-F X → X) (one : X → X → Type 0) → Names → Stmt-F Stmt → Type 0
 KeptStep {X} g one a z =
-    one (g (map-Stmt Stmt X (fold-Stmt X g) (kept (map-Stmt Stmt Swept sweep z) a))) (g (map-Stmt Stmt X (fold-Stmt X g) z))
+    one (g (map-Stmt Stmt X (fold-Stmt X g) (kept (map-Stmt Stmt Swept sweep z) a)))
+    (g (map-Stmt Stmt X (fold-Stmt X g) z))
 
-kept-related : {X : Type 0} (g : Stmt-F X → X) (one : X → X → Type 0) (all : List X → List X → Type 0) → Relation g one all → (y : Stmt-F (Each g all)) (a : Names) → KeptStep g one a (opened g all y)
+kept-related : {X : Type 0} (g : Stmt-F X → X) (one : X → X → Type 0) (all : List X → List X → Type 0)
+    → Relation g one all → (y : Stmt-F (Each g all)) (a : Names) → KeptStep g one a (opened g all y)
 kept-related g one all r (Stmt-F.Lit x n) a = r.same (g (Stmt-F.Lit x n))
 kept-related g one all r (Stmt-F.Copy x y) a = r.same (g (Stmt-F.Copy x y))
 kept-related g one all r (Stmt-F.Op x op y z) a = r.same (g (Stmt-F.Op x op y z))
@@ -80,7 +88,8 @@ kept-related g one all r (Stmt-F.Call xs h ys) a = r.same (g (Stmt-F.Call xs h y
 kept-related g one all r (Stmt-F.Read x y) a = r.same (g (Stmt-F.Read x y))
 kept-related g one all r (Stmt-F.Write y z) a = r.same (g (Stmt-F.Write y z))
 kept-related {X} g one all r (Stmt-F.Stackalloc x n body) a =
-    r.buffer x n (map (fold-Stmt X g) (left_of (stmts g all body) a)) (map (fold-Stmt X g) (stmts g all body)) (each-left g one all r body a)
+    r.buffer x n (map (fold-Stmt X g) (left_of (stmts g all body) a)) (map (fold-Stmt X g) (stmts g all body))
+    (each-left g one all r body a)
 kept-related {X} g one all r (Stmt-F.If test first second) a =
     r.choice test (map (fold-Stmt X g) (left_of (stmts g all first) a)) (map (fold-Stmt X g) (stmts g all first))
     (map (fold-Stmt X g) (left_of (stmts g all second) a)) (map (fold-Stmt X g) (stmts g all second))
@@ -93,18 +102,23 @@ kept-related {X} g one all r (Stmt-F.Loop first test last) a =
     (each-left g one all r first t) (each-left g one all r last s)
 
 -- a statement that is idle or kept
-choice-related : {X : Type 0} (g : Stmt-F X → X) (one : X → X → Type 0) (all : List X → List X → Type 0) → Relation g one all → (x : Stmt-F Stmt) (b : Bool) (z : Stmt-F Stmt) → (b ≡ true → is_removable x ≡ true)
+choice-related : {X : Type 0} (g : Stmt-F X → X) (one : X → X → Type 0) (all : List X → List X → Type 0)
+    → Relation g one all → (x : Stmt-F Stmt) (b : Bool) (z : Stmt-F Stmt) → (b ≡ true → is_removable x ≡ true)
     → one (g (map-Stmt Stmt X (fold-Stmt X g) z)) (g (map-Stmt Stmt X (fold-Stmt X g) x))
     → Left g all (if b then None else Some (roll-Stmt z)) (roll-Stmt x)
 choice-related {X} g one all r x true z gone rel ds ys h =
     subst (λ v. all (map (fold-Stmt X g) ds) (v ∷ ys)) (sym (fold-roll-Stmt X g x))
-    (r.skip (map-Stmt Stmt X (fold-Stmt X g) x) (map (fold-Stmt X g) ds) ys (removable-map (fold-Stmt X g) x ∙ gone refl) h)
+    (r.skip (map-Stmt Stmt X (fold-Stmt X g) x) (map (fold-Stmt X g) ds) ys
+    (removable-map (fold-Stmt X g) x ∙ gone refl) h)
 choice-related {X} g one all r x false z gone rel ds ys h =
     subst (λ v. all (fold-Stmt X g (roll-Stmt z) ∷ map (fold-Stmt X g) ds) (v ∷ ys)) (sym (fold-roll-Stmt X g x))
-    (subst (λ u. all (u ∷ map (fold-Stmt X g) ds) (g (map-Stmt Stmt X (fold-Stmt X g) x) ∷ ys)) (sym (fold-roll-Stmt X g z))
-    (r.cons (g (map-Stmt Stmt X (fold-Stmt X g) z)) (g (map-Stmt Stmt X (fold-Stmt X g) x)) (map (fold-Stmt X g) ds) ys rel h))
+    (subst (λ u. all (u ∷ map (fold-Stmt X g) ds) (g (map-Stmt Stmt X (fold-Stmt X g) x) ∷ ys))
+    (sym (fold-roll-Stmt X g z))
+    (r.cons (g (map-Stmt Stmt X (fold-Stmt X g) z)) (g (map-Stmt Stmt X (fold-Stmt X g) x))
+    (map (fold-Stmt X g) ds) ys rel h))
 
-related : {X : Type 0} (g : Stmt-F X → X) (one : X → X → Type 0) (all : List X → List X → Type 0) → Relation g one all → (c : Stmt) → LeftOf g all c
+related : {X : Type 0} (g : Stmt-F X → X) (one : X → X → Type 0) (all : List X → List X → Type 0) → Relation g one all
+    → (c : Stmt) → LeftOf g all c
 related {X} g one all r = ind-Stmt (LeftOf g all) (λ x y is a.
     let w : Stmt-F Swept = map-Stmt Stmt Swept sweep x in
     subst (λ (s : Swept). Left g all (s.left a) (roll-Stmt x)) (sym (fold-roll-Stmt Swept sweep_step x))
@@ -112,7 +126,8 @@ related {X} g one all r = ind-Stmt (LeftOf g all) (λ x y is a.
     (λ e. sym (removable-map sweep x) ∙ and-first (is_removable w) (not (list_any a (written w))) e)
     (subst (KeptStep g one a) is (kept-related g one all r y a))))
 
-pub left-related : {X : Type 0} (g : Stmt-F X → X) (one : X → X → Type 0) (all : List X → List X → Type 0) → Relation g one all → (cs : List Stmt) (a : Names)
+pub left-related : {X : Type 0} (g : Stmt-F X → X) (one : X → X → Type 0) (all : List X → List X → Type 0)
+    → Relation g one all → (cs : List Stmt) (a : Names)
     → all (map (fold-Stmt X g) (left_of cs a)) (map (fold-Stmt X g) cs)
 left-related g one all r [] a = r.nil
 left-related {X} g one all r (c ∷ cs) a =

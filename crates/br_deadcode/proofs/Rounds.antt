@@ -21,16 +21,20 @@ and-second : (a b : Bool) → (a && b) ≡ true → b ≡ true
 and-second true b e = e
 and-second false b e = absurd (cc e)
 
-item-of : (t : FlatFunc → Bool) (gs : List FlatFunc) (i : ℕ) (f : FlatFunc) → list_all t gs ≡ true → i < length gs → f ≡ get_or gs i f → t f ≡ true
+item-of : (t : FlatFunc → Bool) (gs : List FlatFunc) (i : ℕ) (f : FlatFunc) → list_all t gs ≡ true → i < length gs
+    → f ≡ get_or gs i f → t f ≡ true
 item-of t [] i f all inside is = absurd (omega arith)
 item-of t (g ∷ gs) zero f all inside is = ap t is ∙ and-first (t g) (list_all t gs) all
 item-of t (g ∷ gs) (suc i) f all inside is = item-of t gs i f (and-second (t g) (list_all t gs) all) (omega arith) is
 
-pub item-formed : (fs : List FlatFunc) (i : ℕ) (f : FlatFunc) → IsWellFormed fs → i < length fs → f ≡ get_or fs i f → IsTrue (is_well_formed_function fs f)
+pub item-formed : (fs : List FlatFunc) (i : ℕ) (f : FlatFunc) → IsWellFormed fs → i < length fs → f ≡ get_or fs i f
+    → IsTrue (is_well_formed_function fs f)
 item-formed fs i f formed inside is =
-    item-of (is_well_formed_function fs) fs i f (and-second (names_differ fs) (list_all (is_well_formed_function fs) fs) formed) inside is
+    item-of (is_well_formed_function fs) fs i f
+    (and-second (names_differ fs) (list_all (is_well_formed_function fs) fs) formed) inside is
 
-next : (fs : List FlatFunc) (i : ℕ) (f : FlatFunc) → i < length fs → f ≡ get_or fs i f → drop i fs ≡ f ∷ drop (i + 1) fs
+next : (fs : List FlatFunc) (i : ℕ) (f : FlatFunc) → i < length fs → f ≡ get_or fs i f
+    → drop i fs ≡ f ∷ drop (i + 1) fs
 next fs i f inside is = rw (add-one, drop-cons fs i f, ← is) refl
 
 pub one-more : (fs made new : List FlatFunc) (i : ℕ) (f q : FlatFunc) → i < length fs → f ≡ get_or fs i f

@@ -244,11 +244,13 @@ others-stay (f ∷ fs) = (same-others f, others-stay fs)
 
 -- ---- pairs of functions
 
-pub pairs-itself : (R : FlatFunc → FlatFunc → Type 0) → ((f : FlatFunc) → R f f) → (fs : List FlatFunc) → InPairs R fs fs
+pub pairs-itself : (R : FlatFunc → FlatFunc → Type 0) → ((f : FlatFunc) → R f f) → (fs : List FlatFunc)
+    → InPairs R fs fs
 pairs-itself R same [] = tt
 pairs-itself R same (f ∷ fs) = (same f, pairs-itself R same fs)
 
-pub pairs-trans : (R : FlatFunc → FlatFunc → Type 0) → ((r q p : FlatFunc) → R r q → R q p → R r p) → (rs qs ps : List FlatFunc) → InPairs R rs qs → InPairs R qs ps → InPairs R rs ps
+pub pairs-trans : (R : FlatFunc → FlatFunc → Type 0) → ((r q p : FlatFunc) → R r q → R q p → R r p)
+    → (rs qs ps : List FlatFunc) → InPairs R rs qs → InPairs R qs ps → InPairs R rs ps
 pairs-trans R trans [] [] [] h k = tt
 pairs-trans R trans (r ∷ rs) (q ∷ qs) (p ∷ ps) h k = (trans r q p h.0 k.0, pairs-trans R trans rs qs ps h.1 k.1)
 pairs-trans R trans [] [] (p ∷ ps) h k = absurd k
@@ -286,7 +288,8 @@ one-part true true c k h = rw (k refl) refl
 one-part true false c k h = absurd (cc h)
 one-part false b c k h = absurd (cc h)
 
-two-parts : (a b c d e : Bool) → (b ≡ true → d ≡ true) → (c ≡ true → e ≡ true) → (a && (b && (c && true))) ≡ true → (a && (d && (e && true))) ≡ true
+two-parts : (a b c d e : Bool) → (b ≡ true → d ≡ true) → (c ≡ true → e ≡ true) → (a && (b && (c && true))) ≡ true
+    → (a && (d && (e && true))) ≡ true
 two-parts true true true d e k l h = rw (k refl, l refl) refl
 two-parts true true false d e k l h = absurd (cc h)
 two-parts true false c d e k l h = absurd (cc h)
@@ -302,27 +305,32 @@ formed-relation fs names = record {
   buffer = λ x n bs cs h.
       one-part (fits {X = Bool} fs names (Stmt-F.Stackalloc x n [])) (all_true cs) (all_true bs) h;
   choice = λ test bs cs ds es h g.
-      two-parts (fits {X = Bool} fs names (Stmt-F.If test [] [])) (all_true cs) (all_true es) (all_true bs) (all_true ds) h g;
+      two-parts (fits {X = Bool} fs names (Stmt-F.If test [] [])) (all_true cs) (all_true es) (all_true bs)
+      (all_true ds) h g;
   turns = λ test bs cs ds es h g.
-      two-parts (fits {X = Bool} fs names (Stmt-F.Loop [] test [])) (all_true cs) (all_true es) (all_true bs) (all_true ds) h g;
+      two-parts (fits {X = Bool} fs names (Stmt-F.Loop [] test [])) (all_true cs) (all_true es) (all_true bs)
+      (all_true ds) h g;
 }
 
 all-made : (t : Stmt → Bool) (cs : List Stmt) → all_true (map t cs) ≡ list_all t cs
 all-made t [] = refl
 all-made t (c ∷ cs) = ap (λ b. t c && b) (all-made t cs)
 
-body-formed : (fs : List FlatFunc) (f : FlatFunc) → list_all (is_well_formed_statement fs f.names) f.body ≡ true → list_all (is_well_formed_statement fs f.names) (left_of f.body (is_in f.results)) ≡ true
+body-formed : (fs : List FlatFunc) (f : FlatFunc) → list_all (is_well_formed_statement fs f.names) f.body ≡ true
+    → list_all (is_well_formed_statement fs f.names) (left_of f.body (is_in f.results)) ≡ true
 body-formed fs f h =
     sym (all-made (is_well_formed_statement fs f.names) (left_of f.body (is_in f.results)))
     ∙ left-related (fits_step fs f.names) Follows AllFollow (formed-relation fs f.names) f.body (is_in f.results)
     (all-made (is_well_formed_statement fs f.names) f.body ∙ h)
 
-counts-same : (fs : List FlatFunc) (g n m : ℕ) → counts_fit (slice_get (swept_program fs) g) n m ≡ counts_fit (slice_get fs g) n m
+counts-same : (fs : List FlatFunc) (g n m : ℕ)
+    → counts_fit (slice_get (swept_program fs) g) n m ≡ counts_fit (slice_get fs g) n m
 counts-same [] g n m = refl
 counts-same (f ∷ fs) zero n m = refl
 counts-same (f ∷ fs) (suc g) n m = counts-same fs g n m
 
-fits-same : (fs : List FlatFunc) (names : ℕ) {X : Type 0} (y : Stmt-F X) → fits (swept_program fs) names y ≡ fits fs names y
+fits-same : (fs : List FlatFunc) (names : ℕ) {X : Type 0} (y : Stmt-F X)
+    → fits (swept_program fs) names y ≡ fits fs names y
 fits-same fs names (Stmt-F.Lit x n) = refl
 fits-same fs names (Stmt-F.Copy x y) = refl
 fits-same fs names (Stmt-F.Op x op y z) = refl
@@ -333,14 +341,17 @@ fits-same fs names (Stmt-F.Stackalloc x n body) = refl
 fits-same fs names (Stmt-F.If test first second) = refl
 fits-same fs names (Stmt-F.Loop first test last) = refl
 fits-same fs names (Stmt-F.Call xs g ys) =
-    ap (λ b. are_below names xs && are_below names ys && (b && all_differ xs)) (counts-same fs g (length xs) (length ys))
+    ap (λ b. are_below names xs && are_below names ys && (b && all_differ xs))
+    (counts-same fs g (length xs) (length ys))
 fits-same fs names (Stmt-F.Read x y) = refl
 fits-same fs names (Stmt-F.Write y z) = refl
 
-formed-same : (fs : List FlatFunc) (names : ℕ) → is_well_formed_statement (swept_program fs) names ≡ is_well_formed_statement fs names
+formed-same : (fs : List FlatFunc) (names : ℕ)
+    → is_well_formed_statement (swept_program fs) names ≡ is_well_formed_statement fs names
 formed-same fs names = ap (λ (t : Stmt-F Bool → Bool). throughout t) (fun_ext (λ y. fits-same fs names y))
 
-function-formed : (fs : List FlatFunc) (f : FlatFunc) → is_well_formed_function fs f ≡ true → is_well_formed_function (swept_program fs) (swept_function f) ≡ true
+function-formed : (fs : List FlatFunc) (f : FlatFunc) → is_well_formed_function fs f ≡ true
+    → is_well_formed_function (swept_program fs) (swept_function f) ≡ true
 function-formed fs f h =
     let old = list_all (is_well_formed_statement fs f.names) f.body in
     let left : List Stmt = left_of f.body (is_in f.results) in
@@ -349,7 +360,8 @@ function-formed fs f h =
     (ap (λ (t : Stmt → Bool). list_all t left) (formed-same fs f.names)
     ∙ body-formed fs f (and-second (is_well_formed_head f) old h))
 
-functions-formed : (fs gs : List FlatFunc) → list_all (is_well_formed_function fs) gs ≡ true → list_all (is_well_formed_function (swept_program fs)) (swept_program gs) ≡ true
+functions-formed : (fs gs : List FlatFunc) → list_all (is_well_formed_function fs) gs ≡ true
+    → list_all (is_well_formed_function (swept_program fs)) (swept_program gs) ≡ true
 functions-formed fs [] h = refl
 functions-formed fs (g ∷ gs) h =
     let one = is_well_formed_function fs g in
@@ -358,7 +370,8 @@ functions-formed fs (g ∷ gs) h =
     (list_all (is_well_formed_function (swept_program fs)) (swept_program gs))
     (function-formed fs g (and-first one rest h)) (functions-formed fs gs (and-second one rest h))
 
-any-same : (name : List ℕ) (fs : List FlatFunc) → list_any (λ g. bytes_eq g.name name) (swept_program fs) ≡ list_any (λ g. bytes_eq g.name name) fs
+any-same : (name : List ℕ) (fs : List FlatFunc)
+    → list_any (λ g. bytes_eq g.name name) (swept_program fs) ≡ list_any (λ g. bytes_eq g.name name) fs
 any-same name [] = refl
 any-same name (f ∷ fs) = rw (any-same name fs) refl
 

@@ -42,7 +42,9 @@ idle-step x a h =
       leaves = ap (λ (c : Swept). c.leaves_out a) unrolled ∙ ap (λ (b : Bool). b || inner_left_out z a) e;
     }
 
-pub kept-step : (x : Stmt-F Stmt) (a : Names) → is_idle x a ≡ false → SweptAs (roll-Stmt x) a (before_kept (map-Stmt Stmt Swept sweep x) a) (Some (roll-Stmt (kept (map-Stmt Stmt Swept sweep x) a))) (inner_left_out (map-Stmt Stmt Swept sweep x) a)
+pub kept-step : (x : Stmt-F Stmt) (a : Names) → is_idle x a ≡ false
+    → SweptAs (roll-Stmt x) a (before_kept (map-Stmt Stmt Swept sweep x) a)
+    (Some (roll-Stmt (kept (map-Stmt Stmt Swept sweep x) a))) (inner_left_out (map-Stmt Stmt Swept sweep x) a)
 kept-step x a h =
     let z : Stmt-F Swept = map-Stmt Stmt Swept sweep x in
     let e : is_idle z a ≡ false = idle-map sweep x a ∙ h in
@@ -60,7 +62,8 @@ pub record IdleAs (s : Stmt) (a : Names) : Type 0 where
   pub swept : SweptAs s a a None true
   pub turns : (b : ℕ) → turns_of b s ≡ []
 
-no-turns : (b : ℕ) (x : Stmt-F Stmt) (a : Names) → is_idle x a ≡ true → (turned_step b (map-Stmt Stmt Turned (turned b) x)).turns ≡ []
+no-turns : (b : ℕ) (x : Stmt-F Stmt) (a : Names) → is_idle x a ≡ true
+    → (turned_step b (map-Stmt Stmt Turned (turned b) x)).turns ≡ []
 no-turns b (Stmt-F.Lit x n) a h = refl
 no-turns b (Stmt-F.Copy x y) a h = refl
 no-turns b (Stmt-F.Op x op y z) a h = refl
@@ -101,23 +104,34 @@ Plain s a = SweptAs s a (before s a) (Some s) false
 
 pub sweep-plain : (s : Stmt) (a : Names) → IsPlain s → idle s a ≡ false → Plain s a
 sweep-plain s a (inl e) not = subst (λ c. idle c a ≡ false → Plain c a) (sym e.2)
-    (λ n. plain-as (Stmt-F.Lit e.0 e.1) (Lit e.0 e.1) a (before (Lit e.0 e.1) a) (rolls-Lit e.0 e.1) n (sym (live-lit e.0 e.1 a)) refl refl) not
+    (λ n. plain-as (Stmt-F.Lit e.0 e.1) (Lit e.0 e.1) a (before (Lit e.0 e.1) a) (rolls-Lit e.0 e.1) n
+    (sym (live-lit e.0 e.1 a)) refl refl) not
 sweep-plain s a (inr (inl e)) not = subst (λ c. idle c a ≡ false → Plain c a) (sym e.2)
-    (λ n. plain-as (Stmt-F.Copy e.0 e.1) (Copy e.0 e.1) a (before (Copy e.0 e.1) a) (rolls-Copy e.0 e.1) n (sym (live-copy e.0 e.1 a)) refl refl) not
+    (λ n. plain-as (Stmt-F.Copy e.0 e.1) (Copy e.0 e.1) a (before (Copy e.0 e.1) a) (rolls-Copy e.0 e.1) n
+    (sym (live-copy e.0 e.1 a)) refl refl) not
 sweep-plain s a (inr (inr (inl e))) not = subst (λ c. idle c a ≡ false → Plain c a) (sym e.4)
-    (λ n. plain-as (Stmt-F.Op e.0 e.1 e.2 e.3) (Op e.0 e.1 e.2 e.3) a (before (Op e.0 e.1 e.2 e.3) a) (rolls-Op e.0 e.1 e.2 e.3) n (sym (live-op e.0 e.1 e.2 e.3 a)) refl refl) not
+    (λ n. plain-as (Stmt-F.Op e.0 e.1 e.2 e.3) (Op e.0 e.1 e.2 e.3) a (before (Op e.0 e.1 e.2 e.3) a)
+    (rolls-Op e.0 e.1 e.2 e.3) n (sym (live-op e.0 e.1 e.2 e.3 a)) refl refl) not
 sweep-plain s a (inr (inr (inr (inl e)))) not = subst (λ c. idle c a ≡ false → Plain c a) (sym e.4)
-    (λ n. plain-as (Stmt-F.Load e.0 e.1 e.2 e.3) (Load e.0 e.1 e.2 e.3) a (before (Load e.0 e.1 e.2 e.3) a) (rolls-Load e.0 e.1 e.2 e.3) n (sym (live-load e.0 e.1 e.2 e.3 a)) refl refl) not
+    (λ n. plain-as (Stmt-F.Load e.0 e.1 e.2 e.3) (Load e.0 e.1 e.2 e.3) a (before (Load e.0 e.1 e.2 e.3) a)
+    (rolls-Load e.0 e.1 e.2 e.3) n (sym (live-load e.0 e.1 e.2 e.3 a)) refl refl) not
 sweep-plain s a (inr (inr (inr (inr (inl e))))) not = subst (λ c. idle c a ≡ false → Plain c a) (sym e.4)
-    (λ n. plain-as (Stmt-F.Store e.0 e.1 e.2 e.3) (Store e.0 e.1 e.2 e.3) a (before (Store e.0 e.1 e.2 e.3) a) (rolls-Store e.0 e.1 e.2 e.3) n (sym (live-store e.0 e.1 e.2 e.3 a)) refl refl) not
+    (λ n. plain-as (Stmt-F.Store e.0 e.1 e.2 e.3) (Store e.0 e.1 e.2 e.3) a (before (Store e.0 e.1 e.2 e.3) a)
+    (rolls-Store e.0 e.1 e.2 e.3) n (sym (live-store e.0 e.1 e.2 e.3 a)) refl refl) not
 sweep-plain s a (inr (inr (inr (inr (inr (inl e)))))) not = subst (λ c. idle c a ≡ false → Plain c a) (sym e.4)
-    (λ n. plain-as (Stmt-F.Table e.0 e.1 e.2 e.3) (Table e.0 e.1 e.2 e.3) a (before (Table e.0 e.1 e.2 e.3) a) (rolls-Table e.0 e.1 e.2 e.3) n (sym (live-table e.0 e.1 e.2 e.3 a)) refl refl) not
+    (λ n. plain-as (Stmt-F.Table e.0 e.1 e.2 e.3) (Table e.0 e.1 e.2 e.3) a (before (Table e.0 e.1 e.2 e.3) a)
+    (rolls-Table e.0 e.1 e.2 e.3) n (sym (live-table e.0 e.1 e.2 e.3 a)) refl refl) not
 sweep-plain s a (inr (inr (inr (inr (inr (inr (inl e))))))) not = subst (λ c. idle c a ≡ false → Plain c a) (sym e.3)
-    (λ n. plain-as (Stmt-F.Call e.0 e.1 e.2) (Call e.0 e.1 e.2) a (before (Call e.0 e.1 e.2) a) (rolls-Call e.0 e.1 e.2) n (sym (live-call e.0 e.1 e.2 a)) refl refl) not
-sweep-plain s a (inr (inr (inr (inr (inr (inr (inr (inl e)))))))) not = subst (λ c. idle c a ≡ false → Plain c a) (sym e.2)
-    (λ n. plain-as (Stmt-F.Read e.0 e.1) (Read e.0 e.1) a (before (Read e.0 e.1) a) (rolls-Read e.0 e.1) n (sym (live-read e.0 e.1 a)) refl refl) not
-sweep-plain s a (inr (inr (inr (inr (inr (inr (inr (inr e)))))))) not = subst (λ c. idle c a ≡ false → Plain c a) (sym e.2)
-    (λ n. plain-as (Stmt-F.Write e.0 e.1) (Write e.0 e.1) a (before (Write e.0 e.1) a) (rolls-Write e.0 e.1) n (sym (live-write e.0 e.1 a)) refl refl) not
+    (λ n. plain-as (Stmt-F.Call e.0 e.1 e.2) (Call e.0 e.1 e.2) a (before (Call e.0 e.1 e.2) a)
+    (rolls-Call e.0 e.1 e.2) n (sym (live-call e.0 e.1 e.2 a)) refl refl) not
+sweep-plain s a (inr (inr (inr (inr (inr (inr (inr (inl e)))))))) not =
+    subst (λ c. idle c a ≡ false → Plain c a) (sym e.2)
+    (λ n. plain-as (Stmt-F.Read e.0 e.1) (Read e.0 e.1) a (before (Read e.0 e.1) a) (rolls-Read e.0 e.1) n
+    (sym (live-read e.0 e.1 a)) refl refl) not
+sweep-plain s a (inr (inr (inr (inr (inr (inr (inr (inr e)))))))) not =
+    subst (λ c. idle c a ≡ false → Plain c a) (sym e.2)
+    (λ n. plain-as (Stmt-F.Write e.0 e.1) (Write e.0 e.1) a (before (Write e.0 e.1) a) (rolls-Write e.0 e.1) n
+    (sym (live-write e.0 e.1 a)) refl refl) not
 
 -- ---- statements with parts
 
@@ -132,32 +146,45 @@ or_assoc true b c = refl
 or_assoc false b c = refl
 
 -- what a statement writes and reads itself, around what is live in it
-pub own-stackalloc : (x n : ℕ) (body : List Stmt) (e : Names) → union (without e (own_written (Stackalloc x n body))) (is_in (own_read (Stackalloc x n body))) ≡ without e (x ∷ [])
+pub own-stackalloc : (x n : ℕ) (body : List Stmt) (e : Names)
+    → union (without e (own_written (Stackalloc x n body))) (is_in (own_read (Stackalloc x n body))) ≡ without e
+    (x ∷ [])
 own-stackalloc x n body e =
     ap (λ (zs : List ℕ). union (without e zs) (is_in (own_read (Stackalloc x n body)))) (written-stackalloc x n body)
     ∙ ap (λ (zs : List ℕ). union (without e (x ∷ [])) (is_in zs)) (read-stackalloc x n body)
     ∙ union-none (without e (x ∷ []))
 
-pub own-if : (test : Cond) (first second : List Stmt) (e : Names) → union (without e (own_written (If test first second))) (is_in (own_read (If test first second))) ≡ union (is_in (test_names test)) e
+pub own-if : (test : Cond) (first second : List Stmt) (e : Names)
+    → union (without e (own_written (If test first second))) (is_in (own_read (If test first second))) ≡ union
+    (is_in (test_names test)) e
 own-if test first second e =
-    ap (λ (zs : List ℕ). union (without e zs) (is_in (own_read (If test first second)))) (written-if test first second)
+    ap (λ (zs : List ℕ). union (without e zs) (is_in (own_read (If test first second))))
+    (written-if test first second)
     ∙ ap (λ (zs : List ℕ). union (without e []) (is_in zs)) (read-if test first second)
     ∙ ap (λ (s : Names). union s (is_in (test_names test))) (without-none e)
     ∙ fun_ext (λ y. either_order (e y) (is_in (test_names test) y))
 
-pub sweep-stackalloc : (x n : ℕ) (body : List Stmt) (a : Names) → SweptAs (Stackalloc x n body) a (without (before_left body a) (x ∷ [])) (Some (Stackalloc x n (left_of body a))) (leaves_of body a)
+pub sweep-stackalloc : (x n : ℕ) (body : List Stmt) (a : Names)
+    → SweptAs (Stackalloc x n body) a (without (before_left body a) (x ∷ [])) (Some (Stackalloc x n (left_of body a)))
+    (leaves_of body a)
 sweep-stackalloc x n body a =
     let it = kept-step (Stmt-F.Stackalloc x n body) a refl in
-    subst (λ c. SweptAs c a (without (before_left body a) (x ∷ [])) (Some (Stackalloc x n (left_of body a))) (leaves_of body a)) (rolls-Stackalloc x n body) (record {
+    subst (λ c. SweptAs c a (without (before_left body a) (x ∷ [])) (Some (Stackalloc x n (left_of body a)))
+    (leaves_of body a)) (rolls-Stackalloc x n body) (record {
       before = it.before;
       left = it.left ∙ ap Some (rolls-Stackalloc x n (left_of body a));
       leaves = it.leaves;
     })
 
-pub sweep-if : (test : Cond) (first second : List Stmt) (a : Names) → SweptAs (If test first second) a (union (is_in (test_names test)) (union (before_left first a) (before_left second a))) (Some (If test (left_of first a) (left_of second a))) (leaves_of second a || leaves_of first a)
+pub sweep-if : (test : Cond) (first second : List Stmt) (a : Names)
+    → SweptAs (If test first second) a
+    (union (is_in (test_names test)) (union (before_left first a) (before_left second a)))
+    (Some (If test (left_of first a) (left_of second a))) (leaves_of second a || leaves_of first a)
 sweep-if test first second a =
     let it = kept-step (Stmt-F.If test first second) a refl in
-    subst (λ c. SweptAs c a (union (is_in (test_names test)) (union (before_left first a) (before_left second a))) (Some (If test (left_of first a) (left_of second a))) (leaves_of second a || leaves_of first a)) (rolls-If test first second) (record {
+    subst (λ c. SweptAs c a (union (is_in (test_names test)) (union (before_left first a) (before_left second a)))
+    (Some (If test (left_of first a) (left_of second a))) (leaves_of second a || leaves_of first a))
+    (rolls-If test first second) (record {
       before = it.before;
       left = it.left ∙ ap Some (rolls-If test (left_of first a) (left_of second a));
       leaves = it.leaves;
@@ -167,20 +194,25 @@ sweep-if test first second a =
 abbrev LoopAs : List Stmt → Cond → List Stmt → Names → List Live → List Live → Type 0
 LoopAs first test last a fs ls =
     SweptAs (roll-Stmt (Stmt-F.Loop first test last)) a (before_left first (at_test fs test ls a))
-    (Some (roll-Stmt (Stmt-F.Loop (left_of first (at_test fs test ls a)) test (left_of last (entry fs (at_test fs test ls a))))))
+    (Some (roll-Stmt
+    (Stmt-F.Loop (left_of first (at_test fs test ls a)) test (left_of last (entry fs (at_test fs test ls a))))))
     (leaves_of last (entry fs (at_test fs test ls a)) || leaves_of first (at_test fs test ls a))
 
 -- with the sets by all statements
 pub sweep-loop : (first : List Stmt) (test : Cond) (last : List Stmt) (a : Names) →
     let t : Names = at_test (map live first) test (map live last) a in
-    SweptAs (Loop first test last) a (before_left first t) (Some (Loop (left_of first t) test (left_of last (before_all first t)))) (leaves_of last (before_all first t) || leaves_of first t)
+    SweptAs (Loop first test last) a (before_left first t)
+    (Some (Loop (left_of first t) test (left_of last (before_all first t))))
+    (leaves_of last (before_all first t) || leaves_of first t)
 sweep-loop first test last a =
     let t : Names = at_test (map live first) test (map live last) a in
     let here : LoopAs first test last a (map live first) (map live last) =
     subst (λ fs. LoopAs first test last a fs (map live last)) (lives-all first)
     (subst (λ ls. LoopAs first test last a (lives_in (map sweep first)) ls) (lives-all last)
     (kept-step (Stmt-F.Loop first test last) a refl)) in
-    subst (λ c. SweptAs c a (before_left first t) (Some (Loop (left_of first t) test (left_of last (before_all first t)))) (leaves_of last (before_all first t) || leaves_of first t)) (rolls-Loop first test last) (record {
+    subst (λ c. SweptAs c a (before_left first t)
+    (Some (Loop (left_of first t) test (left_of last (before_all first t))))
+    (leaves_of last (before_all first t) || leaves_of first t)) (rolls-Loop first test last) (record {
       before = here.before;
       left = here.left ∙ ap Some (rolls-Loop (left_of first t) test (left_of last (before_all first t)));
       leaves = here.leaves;

@@ -2,7 +2,11 @@
 #![tactic(auto)]
 
 mod copies;
+mod dead;
 mod program;
 mod sweep;
 
 pub use program::remove_dead;
+
+#[cfg(test)]
+mod tests;

@@ -7,9 +7,10 @@ ghost use Rattle.br_flatimp.specs.Parts.{function_names, statement_names};
 ghost use Rattle.br_flatimp.specs.WellFormed.{are_below};
 ghost use Rattle.br_live.specs.Summaries.{handed};
 ghost use Rattle.br_live.specs.Turns.{EndsWith, LoopTurn, all_turns, turn_of, turns_of};
-ghost use Rattle.br_deadcode.specs.Sweeps.{before_left, function_leaves, idle, leaves_of, left_of, put, sweep, swept_function};
+ghost use Rattle.br_deadcode.specs.Sweeps.{before_left, function_leaves, leaves_of, left_of, put, sweep, swept_function};
 
 use crate::copies::copy;
+use crate::dead::is_idle;
 use br_base::NoMemory;
 use br_flatimp::{FlatFunc, Stmt};
 use br_live::{Summary, Turn, summary_of_all};
@@ -159,27 +160,5 @@ fn sweep_one(
             so_far.put_own(s);
             Ok(Some(copy(alloc, s)?))
         }
-    }
-}
-
-// Whether a statement only writes a name that is not live after it.
-#[tactic(auto, using(crate::proofs::Idle::idles))]
-fn is_idle(so_far: &Summary, s: &Stmt) -> bool
-    requires { IsTrue (are_below so_far.now.reads.bound (statement_names s.now)) }
-    ensures { result ≡ idle s.now (handed so_far.now nothing) }
-{
-    match s {
-        Stmt::Lit(x, _)
-        | Stmt::Copy(x, _)
-        | Stmt::Op(x, _, _, _)
-        | Stmt::Load(x, _, _, _)
-        | Stmt::Table(x, _, _, _) => !so_far.reads.contains(*x),
-        Stmt::Store(_, _, _, _)
-        | Stmt::Stackalloc(_, _, _)
-        | Stmt::If(_, _, _)
-        | Stmt::Loop(_, _, _)
-        | Stmt::Call(_, _, _)
-        | Stmt::Read(_, _)
-        | Stmt::Write(_, _) => false,
     }
 }

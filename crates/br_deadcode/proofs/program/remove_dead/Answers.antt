@@ -22,15 +22,18 @@ rounds-smaller c =
     let fs : List FlatFunc = c.rounds.funcs in
     let leaves : c.sweep_functions.new.removed ≡ program_leaves fs =
     c.in_ok-fewer.ensures.removed ∙ ap program_leaves c.as_slice.ensures in
-    let same : c.in_ok-fewer.fewer ≡ swept_program fs = c.in_ok-fewer.ensures.left ∙ ap swept_program c.as_slice.ensures in
+    let same : c.in_ok-fewer.fewer ≡ swept_program fs = c.in_ok-fewer.ensures.left
+    ∙ ap swept_program c.as_slice.ensures in
     subst (λ qs. program_count qs < program_count fs) (sym same) (fewer fs (sym leaves ∙ c.if-not-removed.false))
 
 pub rounds-preserved : goal.rounds-preserved
 rounds-preserved c =
     let fs : List FlatFunc = c.rounds.funcs in
     let ps : List FlatFunc = c.args.p.funcs in
-    let same : c.in_ok-fewer.fewer ≡ swept_program fs = c.in_ok-fewer.ensures.left ∙ ap swept_program c.as_slice.ensures in
+    let same : c.in_ok-fewer.fewer ≡ swept_program fs = c.in_ok-fewer.ensures.left
+    ∙ ap swept_program c.as_slice.ensures in
     record {
       formed = subst IsWellFormed (sym same) (sweep-formed fs c.rounds.invariant.formed);
-      left = subst (λ qs. IsLeftOf qs ps) (sym same) (left-trans (swept_program fs) fs ps (left-once fs) c.rounds.invariant.left);
+      left = subst (λ qs. IsLeftOf qs ps) (sym same)
+          (left-trans (swept_program fs) fs ps (left-once fs) c.rounds.invariant.left);
     }

@@ -13,7 +13,8 @@ loop-f-preserved c =
     let i = c.loop-f.f-index in
     let f = c.f-item.result in
     record {
-      left = one-more fs c.loop-f.made c.push.new.self i f c.in_ok-sweep_function.field-0 c.loop-f-test.true c.f-item.is
+      left = one-more fs c.loop-f.made c.push.new.self i f c.in_ok-sweep_function.field-0 c.loop-f-test.true
+          c.f-item.is
           c.in_ok-sweep_function.ensures.left c.in_ok-push.ensures.ok c.loop-f.invariant.left;
       removed = one-leaves fs i f c.loop-f.removed c.sweep_function.new.removed _ c.loop-f-test.true c.f-item.is
           c.in_ok-sweep_function.ensures.removed c.loop-f.invariant.removed;

@@ -13,7 +13,9 @@ invariant-sweep_all-loop-k l = record {
   inside : l.k ≤ length l.body;
   bound : l.so_far.reads.bound ≡ l.initial.so_far.reads.bound;
   names : handed l.so_far nothing ≡ before_left (drop l.k l.body) (handed l.initial.so_far nothing);
-  turns : (rest : List LoopTurn) → map turn_of l.initial.turns.items ≡ rest ++ all_turns l.initial.so_far.reads.bound l.body → map turn_of l.turns.items ≡ rest ++ all_turns l.initial.so_far.reads.bound (take l.k l.body);
+  turns : (rest : List LoopTurn)
+      → map turn_of l.initial.turns.items ≡ rest ++ all_turns l.initial.so_far.reads.bound l.body
+      → map turn_of l.turns.items ≡ rest ++ all_turns l.initial.so_far.reads.bound (take l.k l.body);
   left : reverse l.backward.items ≡ left_of (drop l.k l.body) (handed l.initial.so_far nothing);
   removed : l.removed ≡ (l.initial.removed || leaves_of (drop l.k l.body) (handed l.initial.so_far nothing));
 }
