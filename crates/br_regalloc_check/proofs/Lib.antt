@@ -1,0 +1,11 @@
+pub mod Assigned
+pub mod Below
+pub mod Bounded
+pub mod Checked
+pub mod Counting
+pub mod Exact
+pub mod Forms
+pub mod Lists
+pub mod Stands
+pub mod Starts
+pub mod Walked

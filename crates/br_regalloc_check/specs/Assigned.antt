@@ -1,0 +1,46 @@
+-- Programs whose functions have taken new names.
+use Rattle.std.specs.Prelude.{◌≡◌, ℕ, suc, Bool, List, [], ◌∷◌, map, slice_index, IsTrue, ◌⊎◌}
+use Rattle.br_flatimp.specs.declared.program.FlatFunc.{FlatFunc}
+use Rattle.br_flatimp.specs.declared.program.Proposal.{Proposal}
+use Rattle.br_flatimp.specs.Parts.{function_names}
+use Rattle.br_flatimp.specs.Renaming.{renamed}
+use Rattle.br_flatimp.specs.Sizes.{largest}
+use Rattle.br_regalloc_check.specs.Accepted.{IsAccepted}
+
+-- one more than the largest of names, or 0 where there is none
+abbrev pub names_for : List ℕ → ℕ
+names_for xs = largest (map suc xs)
+
+-- a function whose count of names is what the names in it need
+abbrev pub recounted : FlatFunc → FlatFunc
+recounted f = record f { names = names_for (function_names f) }
+
+-- a function with other names throughout
+abbrev pub function_renamed : (ℕ → ℕ) → FlatFunc → FlatFunc
+function_renamed to f = recounted (record f {
+  args = map to f.args;
+  results = map to f.results;
+  body = map (renamed to) f.body;
+})
+
+-- a function that took new names where it may, and else stays as it is
+abbrev pub IsAssigned : FlatFunc → FlatFunc → Proposal → Type 0
+IsAssigned q f p =
+    (IsAccepted f p.to × (q ≡ function_renamed (slice_index p.to) f))
+    ⊎ ((IsAccepted f p.to → ⊥) × (q ≡ f))
+
+-- functions that took new names, each where it may take those of its own proposal
+abbrev pub AreAssigned : List FlatFunc → List FlatFunc → List Proposal → Type 0
+AreAssigned [] [] [] = Unit {0}
+AreAssigned (q ∷ qs) (f ∷ fs) (p ∷ ps) = IsAssigned q f p × AreAssigned qs fs ps
+AreAssigned [] [] (p ∷ ps) = ⊥
+AreAssigned [] (f ∷ fs) ps = ⊥
+AreAssigned (q ∷ qs) [] ps = ⊥
+AreAssigned (q ∷ qs) (f ∷ fs) [] = ⊥
+
+-- what holds of a function holds of the one in its place
+abbrev pub KeepEach : (FlatFunc → Bool) → List FlatFunc → List FlatFunc → Type 0
+KeepEach test [] [] = Unit {0}
+KeepEach test (q ∷ qs) (f ∷ fs) = (IsTrue (test f) → IsTrue (test q)) × KeepEach test qs fs
+KeepEach test [] (f ∷ fs) = ⊥
+KeepEach test (q ∷ qs) [] = ⊥
