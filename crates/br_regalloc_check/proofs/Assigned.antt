@@ -1,7 +1,7 @@
 -- A program whose functions took new names is one whose functions are renamed.
-use Rattle.std.proofs.Common.{◌≡◌, ℕ, suc, ◌+◌, ◌<◌, ◌≤◌, ◌&&◌, max, false, ◌⊎◌, inl, inr, IsTrue, List, [], ◌∷◌, ◌++◌, map, length, get_or, refl, sym, ap, subst, ◌∙◌, arith}
-use Rattle.std.specs.Prelude.{slice_index, sum}
-use Rattle.std.specs.List.{AllByRecursion, Contains, flat_map}
+use Rattle.std.proofs.Common.{◌≡◌, ℕ, inl, inr, List, [], ◌∷◌, map, refl, sym, ap, subst, ◌∙◌}
+use Rattle.std.specs.Prelude.{slice_index}
+use Rattle.std.specs.List.{AllByRecursion}
 use Rattle.br_flatimp.specs.declared.program.FlatFunc.{FlatFunc}
 use Rattle.br_flatimp.specs.declared.program.Proposal.{Proposal}
 use Rattle.br_flatimp.specs.declared.program.Cond.{Cond}
@@ -11,10 +11,10 @@ use Rattle.br_flatimp.specs.declared.program.Operand.TheVariants as operand
 use Rattle.br_flatimp.specs.declared.program.Stmt.{Stmt, map-Stmt}
 use Rattle.br_flatimp.specs.declared.program.Stmt.TheOpen.{Stmt-F}
 use Rattle.br_flatimp.specs.declared.program.Stmt.TheViews.{roll-Stmt}
-use Rattle.br_flatimp.specs.declared.program.Stmt.TheFolds.{fold-Stmt, fold-roll-Stmt, ind-Stmt}
-use Rattle.br_flatimp.specs.Liveness.{is_in, Moment, function_moments}
+use Rattle.br_flatimp.specs.declared.program.Stmt.TheFolds.{fold-roll-Stmt, ind-Stmt}
+use Rattle.br_flatimp.specs.Liveness.{Moment, function_moments}
 use Rattle.br_flatimp.specs.Runs.{forgets_none}
-use Rattle.br_flatimp.specs.Renaming.{Allows, IsApart, RenamedFunction, RenamedFunctions, renamed, renamed_operand, renamed_step, renamed_test}
+use Rattle.br_flatimp.specs.Renaming.{Allows, RenamedFunction, RenamedFunctions, renamed, renamed_operand, renamed_step, renamed_test}
 use Rattle.br_regalloc_check.specs.Accepted.{IsAccepted, MayRename}
 use Rattle.br_regalloc_check.specs.Assigned.{AreAssigned, IsAssigned, function_renamed}
 use Rattle.br_regalloc_check.proofs.Lists.{all-change, differ-apart}

@@ -1,20 +1,18 @@
 -- What is live is among the names of the function, which are below their count. So it is enough that those
 -- below it stay apart.
-use Rattle.std.proofs.Common.{◌≡◌, ℕ, ◌<◌, Bool, true, false, not, ◌||◌, ◌&&◌, IsTrue, inl, inr, List, [], ◌∷◌, ◌++◌, map, refl, sym, ap, subst, ◌∙◌, ◌↔◌}
+use Rattle.std.proofs.Common.{ℕ, ◌<◌, not, IsTrue, inl, inr, List, [], ◌∷◌, ◌++◌, map, sym, subst}
 use Rattle.std.specs.List.{AllByRecursion, flat_map}
-use Rattle.br_flatimp.specs.declared.program.Cond.{Cond}
 use Rattle.br_flatimp.specs.declared.program.Stmt.{Stmt, map-Stmt}
 use Rattle.br_flatimp.specs.declared.program.Stmt.TheOpen.{Stmt-F}
 use Rattle.br_flatimp.specs.declared.program.Stmt.TheFolds.{fold-roll-Stmt, ind-Stmt}
 use Rattle.br_flatimp.specs.Values.{Names}
 use Rattle.br_flatimp.specs.Parts.{written, read, parts, test_names, operand_names, statement_names}
-use Rattle.br_flatimp.specs.Liveness.{nothing, is_in, union, without, Live, Moment, at_test, before, before_all, entry, live, live_step, moment, moments}
+use Rattle.br_flatimp.specs.Liveness.{nothing, is_in, union, without, Live, Moment, at_test, before_all, entry, live, live_step, moments}
 use Rattle.br_flatimp.specs.WellFormed.{are_below}
-use Rattle.br_flatimp.specs.Renaming.{IsApart}
 use Rattle.br_regalloc_check.specs.Accepted.{AreApart, MayRename}
-use Rattle.br_regalloc_check.specs.Walks.{AreApartBelow, IsApartBelow, MayRenameBelow}
+use Rattle.br_regalloc_check.specs.Walks.{AreApartBelow, MayRenameBelow}
 use Rattle.br_regalloc_check.proofs.Below.{below-append, below-in}
-use Rattle.br_regalloc_check.proofs.Lists.{all-split, all-join, all-change, or_cases, and_both}
+use Rattle.br_regalloc_check.proofs.Lists.{all-join, all-change, or_cases, and_both}
 
 abbrev pub IsBounded : ℕ → Names → Type 0
 IsBounded n live = (x : ℕ) → IsTrue (live x) → x < n
@@ -89,10 +87,9 @@ layer-stays n (Stmt-F.If test first second) below after h =
     let own = below-append n (test_names test) (names n first ++ (names n second ++ [])) below in
     let two = below-append n (names n first) (names n second ++ []) own.1 in
     let a = all-stay n first two.0 after h in
-    let b = all-stay n second (below-append n (names n second) [] two.1).0 after h in
-    (
+    let b = all-stay n second (below-append n (names n second) [] two.1).0 after h in (
       bounded-union n (is_in (test_names test)) (union (entry (lives n first) after) (entry (lives n second) after)) (below-in n (test_names test) own.0)
-      (bounded-union n (entry (lives n first) after) (entry (lives n second) after) a.0 b.0),
+          (bounded-union n (entry (lives n first) after) (entry (lives n second) after) a.0 b.0),
       (h, all-join (FewWritten n) (moments (lives n first) after) (moments (lives n second) after) a.1 b.1),
     )
 layer-stays n (Stmt-F.Loop first test last) below after h =

@@ -1,13 +1,12 @@
 -- What the checks of a function show of it: each of them, that it may take the new names.
-use Rattle.std.proofs.Common.{◌≡◌, ℕ, ◌+◌, ◌<◌, ◌≤◌, ◌==◌, ◌&&◌, IsTrue, List, [], ◌∷◌, ◌++◌, map, length, drop, refl, sym, ap, subst, ◌∙◌, append-nil, arith}
-use Rattle.std.specs.Prelude.{slice_index, sum}
-use Rattle.std.specs.List.{AllByRecursion, flat_map}
+use Rattle.std.proofs.Common.{◌≡◌, ℕ, ◌<◌, IsTrue, List, [], ◌∷◌, ◌++◌, map, length, sym, ap, subst, ◌∙◌, append-nil, arith}
+use Rattle.std.specs.Prelude.{slice_index}
+use Rattle.std.specs.List.{flat_map}
 use Rattle.std.proofs.lemmas.List.{length-map}
 use Rattle.br_flatimp.specs.declared.program.FlatFunc.{FlatFunc}
 use Rattle.br_flatimp.specs.declared.program.Stmt.{Stmt}
 use Rattle.br_flatimp.specs.Parts.{function_names, statement_names}
-use Rattle.br_flatimp.specs.Sizes.{function_count, statement_count}
-use Rattle.br_flatimp.specs.Values.{Names}
+use Rattle.br_flatimp.specs.Sizes.{function_count}
 use Rattle.br_flatimp.specs.Liveness.{is_in, Moment, before_all, function_moments, live, moments}
 use Rattle.br_flatimp.specs.WellFormed.{all_differ, are_below}
 use Rattle.br_live.specs.Tables.{Row, rows_after}

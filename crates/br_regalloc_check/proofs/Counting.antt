@@ -1,12 +1,11 @@
 -- Counts of names, raised one by one.
-use Rattle.std.proofs.Common.{◌≡◌, ℕ, suc, max, ◌+◌, ◌<◌, List, [], ◌∷◌, ◌++◌, map, length, get_or, drop, refl, ap, ◌∙◌, arith}
+use Rattle.std.proofs.Common.{◌≡◌, ℕ, suc, max, ◌+◌, ◌<◌, List, [], ◌∷◌, ◌++◌, length, get_or, drop, refl, ap, ◌∙◌, arith}
 use Rattle.std.specs.List.{flat_map}
 use Rattle.std.proofs.lemmas.Grind.{common_steps}
 use Rattle.br_flatimp.specs.declared.program.Cond.{Cond}
 use Rattle.br_flatimp.specs.declared.program.Stmt.{Stmt}
 use Rattle.br_flatimp.specs.declared.program.Stmt.TheVariants.{Stackalloc, If, Loop, Call}
 use Rattle.br_flatimp.specs.Parts.{statement_names, test_names}
-use Rattle.br_flatimp.specs.Sizes.{largest}
 use Rattle.br_regalloc_check.specs.Assigned.{names_for}
 use Rattle.br_regalloc_check.specs.Walks.{counted}
 use Rattle.br_regalloc_check.proofs.Forms.{names-stackalloc, names-if, names-loop, names-call}

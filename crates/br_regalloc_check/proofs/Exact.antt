@@ -1,17 +1,17 @@
 -- Names stay apart at each point of a function exactly where they do at its start and what is written stays
 -- apart from what is live after the write: what is live after a statement was live before it or is written.
-use Rattle.std.proofs.Common.{◌≡◌, ℕ, Bool, true, false, not, ◌||◌, ◌&&◌, IsTrue, inl, inr, List, [], ◌∷◌, ◌++◌, map, refl, sym, ap, subst, ◌∙◌}
+use Rattle.std.proofs.Common.{◌≡◌, ℕ, Bool, true, false, not, IsTrue, List, [], ◌∷◌, map, refl, sym, subst}
 use Rattle.std.specs.List.{AllByRecursion}
 use Rattle.br_flatimp.specs.declared.program.Cond.{Cond}
 use Rattle.br_flatimp.specs.declared.program.Stmt.{Stmt, map-Stmt}
 use Rattle.br_flatimp.specs.declared.program.Stmt.TheOpen.{Stmt-F}
 use Rattle.br_flatimp.specs.declared.program.Stmt.TheFolds.{fold-roll-Stmt, ind-Stmt}
 use Rattle.br_flatimp.specs.Values.{Names}
-use Rattle.br_flatimp.specs.Parts.{written, read, test_names, operand_names}
-use Rattle.br_flatimp.specs.Liveness.{nothing, is_in, union, without, Within, Live, Moment, at_test, before, before_all, before_step, entry, inner_moments, inner_points, live, live_step, moment, moments, points}
+use Rattle.br_flatimp.specs.Parts.{test_names, operand_names}
+use Rattle.br_flatimp.specs.Liveness.{is_in, union, without, Within, Live, Moment, at_test, before, before_all, entry, live, live_step, moment, moments, points}
 use Rattle.br_flatimp.specs.Renaming.{IsApart}
 use Rattle.br_regalloc_check.specs.Accepted.{AreApart, MayRename}
-use Rattle.br_regalloc_check.proofs.Lists.{all-split, all-join, or_left, or_right, or_cases, both_and, not_of, in_head}
+use Rattle.br_regalloc_check.proofs.Lists.{all-split, all-join, or_left, or_right, both_and, not_of}
 
 -- the law of a loop's test: it holds what one more turn hands on
 abbrev pub TestHolds : Type 0

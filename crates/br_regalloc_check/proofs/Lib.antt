@@ -4,8 +4,11 @@ pub mod Bounded
 pub mod Checked
 pub mod Counting
 pub mod Exact
+pub mod Formed
 pub mod Forms
 pub mod Lists
+pub mod Programs
+pub mod Renames
 pub mod Stands
 pub mod Starts
 pub mod Walked

@@ -1,6 +1,6 @@
 -- Facts on each element of lists in two parts, and on names that are written.
-use Rattle.std.proofs.Common.{◌≡◌, ℕ, zero, suc, ◌+◌, ◌<◌, Bool, true, false, ◌||◌, ◌&&◌, not, ◌==◌, IsTrue, ◌⊎◌, inl, inr, List, [], ◌∷◌, ◌++◌, map, length, get_or, drop, refl, sym, ap, subst, ◌∙◌, arith}
-use Rattle.std.specs.List.{AllByRecursion, list_any}
+use Rattle.std.proofs.Common.{◌≡◌, ℕ, ◌+◌, ◌<◌, Bool, true, false, ◌||◌, ◌&&◌, not, ◌==◌, IsTrue, ◌⊎◌, inl, inr, List, [], ◌∷◌, ◌++◌, map, length, get_or, drop, refl, sym, ap, subst, ◌∙◌, arith}
+use Rattle.std.specs.List.{AllByRecursion}
 use Rattle.std.proofs.lemmas.Grind.{common_steps}
 use Rattle.br_flatimp.specs.Liveness.{is_in}
 use Rattle.br_flatimp.specs.WellFormed.{all_differ}
@@ -66,17 +66,17 @@ in_one x y h = elim (or_cases (x == y) false h) [ inl e ↦ eq_true x y e | inr 
 pub in_map : (to : ℕ → ℕ) (xs : List ℕ) (x : ℕ) → IsTrue (is_in xs x) → IsTrue (is_in (map to xs) (to x))
 in_map to [] x h = absurd (cc h)
 in_map to (y ∷ ys) x h = elim (or_cases (y == x) (is_in ys x) h) [
-    | inl e ↦ or_left (to y == to x) (is_in (map to ys) (to x)) (let same : y ≡ x = eq_true y x e in subst (λ z. IsTrue (to y == to z)) same (eq_self (to y)))
-    | inr e ↦ or_right (to y == to x) (is_in (map to ys) (to x)) (in_map to ys x e)
-  ]
+  | inl e ↦ or_left (to y == to x) (is_in (map to ys) (to x)) (let same : y ≡ x = eq_true y x e in subst (λ z. IsTrue (to y == to z)) same (eq_self (to y)))
+  | inr e ↦ or_right (to y == to x) (is_in (map to ys) (to x)) (in_map to ys x e)
+]
 
 -- a fact on each of the names in a list
 pub each-in : (P : ℕ → Type 0) (xs : List ℕ) → AllByRecursion P xs → (x : ℕ) → IsTrue (is_in xs x) → P x
 each-in P [] h x i = absurd (cc i)
 each-in P (y ∷ ys) h x i = elim (or_cases (y == x) (is_in ys x) i) [
-    | inl e ↦ subst P (eq_true y x e) h.0
-    | inr e ↦ each-in P ys h.1 x e
-  ]
+  | inl e ↦ subst P (eq_true y x e) h.0
+  | inr e ↦ each-in P ys h.1 x e
+]
 
 pub in-each : (P : ℕ → Type 0) (xs : List ℕ) → ((x : ℕ) → IsTrue (is_in xs x) → P x) → AllByRecursion P xs
 in-each P [] h = tt

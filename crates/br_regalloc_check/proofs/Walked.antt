@@ -19,7 +19,7 @@ use Rattle.br_regalloc_check.specs.Walks.{AreApartBelow, IsApartBelow, MayRename
 use Rattle.br_regalloc_check.proofs.Forms.{itself, count-stackalloc, count-if, count-loop, moments-lit, moments-copy, moments-op, moments-load, moments-table, moments-stackalloc, moments-if, moments-loop, moments-call, moments-read}
 use Rattle.br_regalloc_check.proofs.Below.{below-as, below-if, below-loop}
 use Rattle.br_regalloc_check.proofs.Lists.{all-split, all-join, drop_next, each-in, in-each}
-use Rattle.br_regalloc_check.proofs.Stands.{stands-first, stands-second, moments-count, all-moments-count, sum-cons}
+use Rattle.br_regalloc_check.proofs.Stands.{stands-first, stands-second, all-moments-count, sum-cons}
 
 -- a statement that writes some names itself, and the moments of the statements in it
 pub record Own (s : Stmt) (xs : List ℕ) (a aw : Names) (ms : List Moment) : Type 0 where
@@ -35,15 +35,17 @@ abbrev pub May : ℕ → (ℕ → ℕ) → List Moment → Type 0
 May n to = AllByRecursion (MayRenameBelow n to)
 
 pub own-in : (n : ℕ) (to : ℕ → ℕ) (s : Stmt) (xs : List ℕ) (a aw : Names) (ms : List Moment) → Own s xs a aw ms → OwnMay n to xs aw → May n to ms → May n to ((live s).moments a)
-own-in n to s xs a aw ms o h k = subst (May n to) (sym o.moments) (record {
-  differ = subst (λ ys. IsTrue (all_differ (map to ys))) (sym o.written) h.0;
-  apart = λ x i. subst (IsApartBelow n to x) (sym o.after_write) (each-in (λ y. IsApartBelow n to y aw) xs h.1 x (subst (λ ys. IsTrue (is_in ys x)) o.written i));
-}, k)
+own-in n to s xs a aw ms o h k = subst (May n to) (sym o.moments) (
+  record {
+    differ = subst (λ ys. IsTrue (all_differ (map to ys))) (sym o.written) h.0;
+    apart = λ x i. subst (IsApartBelow n to x) (sym o.after_write) (each-in (λ y. IsApartBelow n to y aw) xs h.1 x (subst (λ ys. IsTrue (is_in ys x)) o.written i));
+  },
+  k,
+)
 
 pub own-out : (n : ℕ) (to : ℕ → ℕ) (s : Stmt) (xs : List ℕ) (a aw : Names) (ms : List Moment) → Own s xs a aw ms → May n to ((live s).moments a) → OwnMay n to xs aw × May n to ms
 own-out n to s xs a aw ms o h =
-    let whole = subst (May n to) o.moments h in
-    (
+    let whole = subst (May n to) o.moments h in (
       (
         subst (λ ys. IsTrue (all_differ (map to ys))) o.written whole.0.differ,
         in-each (λ y. IsApartBelow n to y aw) xs (λ x i. subst (IsApartBelow n to x) o.after_write (whole.0.apart x (subst (λ ys. IsTrue (is_in ys x)) (sym o.written) i))),
@@ -108,8 +110,7 @@ own-pair s first second (inr e) a =
 pub single-answers : (n : ℕ) (to : ℕ → ℕ) (s : Stmt) (x : ℕ) (a set : Names) (r : Bool) → IsSingle s x → set ≡ a → (IsTrue r ↔ IsApartBelow n to x set)
     → IsTrue r ↔ May n to ((live s).moments a)
 single-answers n to s x a set r is same h =
-    let o = own-single s x is a in
-    (
+    let o = own-single s x is a in (
       λ sure. own-in n to s (x ∷ []) a a [] o (refl, (subst (IsApartBelow n to x) same (h.0 sure), tt)) tt,
       λ may. h.1 (subst (IsApartBelow n to x) (sym same) (own-out n to s (x ∷ []) a a [] o may).0.1.0),
     )
@@ -117,8 +118,7 @@ single-answers n to s x a set r is same h =
 pub call-answers : (n : ℕ) (to : ℕ → ℕ) (s : Stmt) (xs : List ℕ) (g : ℕ) (ys : List ℕ) (a set : Names) (r : Bool) → s ≡ Call xs g ys → set ≡ a → IsTrue (all_differ (map to xs))
     → (IsTrue r ↔ AllByRecursion (λ x. IsApartBelow n to x set) xs) → IsTrue r ↔ May n to ((live s).moments a)
 call-answers n to s xs g ys a set r is same differ h =
-    let o = own-call s xs g ys is a in
-    (
+    let o = own-call s xs g ys is a in (
       λ sure. own-in n to s xs a a [] o (differ, subst (λ l. AllByRecursion (λ x. IsApartBelow n to x l) xs) same (h.0 sure)) tt,
       λ may. h.1 (subst (λ l. AllByRecursion (λ x. IsApartBelow n to x l) xs) (sym same) (own-out n to s xs a a [] o may).0.1),
     )
@@ -126,8 +126,7 @@ call-answers n to s xs g ys a set r is same differ h =
 pub buffer-then : (n : ℕ) (to : ℕ → ℕ) (s : Stmt) (x k : ℕ) (body : List Stmt) (a : Names) (b r : Bool) → s ≡ Stackalloc x k body → b ≡ true
     → (IsTrue b ↔ IsApartBelow n to x (before_all body a)) → (IsTrue r ↔ May n to (moments (map live body) a)) → IsTrue r ↔ May n to ((live s).moments a)
 buffer-then n to s x k body a b r is sure h g =
-    let o = own-buffer s x k body is a in
-    (
+    let o = own-buffer s x k body is a in (
       λ so. own-in n to s (x ∷ []) a (before_all body a) (moments (map live body) a) o (refl, (h.0 sure, tt)) (g.0 so),
       λ may. g.1 (own-out n to s (x ∷ []) a (before_all body a) (moments (map live body) a) o may).1,
     )
@@ -142,8 +141,7 @@ pub pair-then : (n : ℕ) (to : ℕ → ℕ) (s : Stmt) (first second : List Stm
     → (IsTrue b ↔ May n to (moments (map live first) p.end)) → (IsTrue r ↔ May n to (moments (map live second) p.other)) → IsTrue r ↔ May n to ((live s).moments a)
 pair-then n to s first second a p b r sure h g =
     let ms : List Moment = moments (map live first) p.end in
-    let ns : List Moment = moments (map live second) p.other in
-    (
+    let ns : List Moment = moments (map live second) p.other in (
       λ so. own-in n to s [] a a (ms ++ ns) p.own (refl, tt) (all-join (MayRenameBelow n to) ms ns (h.0 sure) (g.0 so)),
       λ may. g.1 (all-split (MayRenameBelow n to) ms ns (own-out n to s [] a a (ms ++ ns) p.own may).1).1,
     )

@@ -2,13 +2,11 @@
 
 ghost use Rattle.std.specs.Prelude.{◌≡◌, ◌<◌, ◌≤◌, ◌^◌, IfOk, IsTrue, length, reverse, slice_index};
 ghost use Rattle.std.specs.List.{AllByRecursion};
-ghost use Rattle.br_flatimp.specs.Missed.{has_no_missed};
-ghost use Rattle.br_flatimp.specs.Liveness.{has_no_dead};
 ghost use Rattle.br_flatimp.specs.Refines.{Refines, meaning};
 ghost use Rattle.br_flatimp.specs.Sizes.{Kept, function_count};
 ghost use Rattle.br_flatimp.specs.WellFormed.{IsWellFormed};
 ghost use Rattle.br_regalloc_check.specs.Accepted.{IsAccepted};
-ghost use Rattle.br_regalloc_check.specs.Assigned.{AreAssigned, IsAssigned, KeepEach, function_renamed};
+ghost use Rattle.br_regalloc_check.specs.Assigned.{AreAssigned, IsAssigned, function_renamed};
 ghost use Rattle.br_regalloc_check.specs.Walks.{IsFit};
 
 use crate::checker::accepts;
@@ -36,8 +34,6 @@ pub fn assign(
     ensures well_formed { IfOk result (λ q. IsWellFormed q.funcs) }
     ensures refines { IfOk result (λ q. Refines (meaning q.funcs) (meaning p.funcs)) }
     ensures kept { IfOk result (λ q. Kept q.funcs p.funcs) }
-    ensures none_missed { IfOk result (λ q. KeepEach has_no_missed q.funcs p.funcs) }
-    ensures none_dead { IfOk result (λ q. KeepEach has_no_dead q.funcs p.funcs) }
 {
     renamed_programs_refine();
     let mut funcs = functions(alloc, p.funcs, proposals)?;
@@ -85,5 +81,11 @@ fn function_renamed(alloc: Global, f: FlatFunc, to: &[u32]) -> Result<FlatFunc, 
     let results = new_names(alloc, to, f.results.as_slice())?;
     let body = renamed_all(alloc, to, f.body.as_slice())?;
     let names = names_for(args.as_slice(), results.as_slice(), body.as_slice());
-    Ok(FlatFunc { name: f.name, args, results, names, body })
+    Ok(FlatFunc {
+        name: f.name,
+        args,
+        results,
+        names,
+        body,
+    })
 }

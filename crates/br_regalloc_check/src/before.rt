@@ -50,7 +50,13 @@ pub(crate) fn is_live_before(table: &LiveTable, s: &Stmt, at: u32, x: u32) -> bo
             let first = first.as_slice();
             let in_first = is_live_at_start(table, first, after, at + 1, x);
             is_either(is_tested(*test, x), in_first)
-                || is_live_at_start(table, second.as_slice(), after, at + 1 + count_all(first), x)
+                || is_live_at_start(
+                    table,
+                    second.as_slice(),
+                    after,
+                    at + 1 + count_all(first),
+                    x,
+                )
         }
         Stmt::Loop(first, test, last) => {
             loops_take_one_turn();
@@ -72,7 +78,11 @@ pub(crate) fn is_live_before(table: &LiveTable, s: &Stmt, at: u32, x: u32) -> bo
             passes(false, is_either(*y == x, *z == x), after)
         }
         Stmt::Call(ys, _, zs) => {
-            passes(is_among(x, ys.as_slice()), is_among(x, zs.as_slice()), after)
+            passes(
+                is_among(x, ys.as_slice()),
+                is_among(x, zs.as_slice()),
+                after,
+            )
         }
     }
 }

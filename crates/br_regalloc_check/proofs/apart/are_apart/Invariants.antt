@@ -1,5 +1,5 @@
 -- Those from here on stay apart exactly where all do.
-use Rattle.std.proofs.Common.{◌≡◌, ◌↔◌, IsTrue, length}
+use Rattle.std.proofs.Common.{◌↔◌, IsTrue, length}
 use Rattle.std.specs.Prelude.{slice_index}
 use Rattle.std.specs.List.{AllByRecursion}
 use Rattle.br_flatimp.specs.WellFormed.{are_below}

@@ -1,5 +1,5 @@
 -- Those from here on differ exactly where all do, and are below the bound.
-use Rattle.std.proofs.Common.{◌≡◌, IsTrue, length, map, get_or}
+use Rattle.std.proofs.Common.{◌≡◌, IsTrue, length, map}
 use Rattle.std.specs.Prelude.{slice_index}
 use Rattle.br_flatimp.specs.WellFormed.{all_differ, are_below}
 use Rattle.br_regalloc_check.proofs.apart.differ.Given as goal

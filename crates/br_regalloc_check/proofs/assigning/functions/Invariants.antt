@@ -10,3 +10,6 @@ invariant-loop-f l =
       split : l.fn.fs ≡ l.fs ++ done;
       assigned : AreAssigned (reverse l.made.items) done (drop (length l.fs) l.proposals);
     }
+
+abbrev pub decreases-loop-f : goal.decreases-loop-f
+decreases-loop-f l = length l.fs

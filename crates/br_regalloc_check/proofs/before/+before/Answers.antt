@@ -1,5 +1,5 @@
 -- Form by form, from what was found in the rows of the parts.
-use Rattle.std.proofs.Common.{◌≡◌, ℕ, ◌+◌, ◌==◌, ◌||◌, false, List, [], map, ap, subst, sym, ◌∙◌, arith}
+use Rattle.std.proofs.Common.{◌≡◌, ◌+◌, ◌==◌, ◌||◌, false, List, [], map, ap, subst, sym, ◌∙◌, arith}
 use Rattle.std.specs.Prelude.{sum}
 use Rattle.br_flatimp.specs.declared.program.Stmt.TheVariants.{Loop}
 use Rattle.br_flatimp.specs.Sizes.{statement_count}

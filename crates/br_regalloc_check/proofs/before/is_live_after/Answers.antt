@@ -1,6 +1,5 @@
 -- A statement has a row of its own, the first of its rows.
-use Rattle.std.proofs.Common.{ℕ, ap, ◌∙◌}
-use Rattle.br_flatimp.specs.Values.{Names}
+use Rattle.std.proofs.Common.{ap, ◌∙◌}
 use Rattle.br_live.specs.Tables.{Row, rows}
 use Rattle.br_regalloc_check.proofs.Stands.{row-here}
 use Rattle.br_regalloc_check.proofs.before.is_live_after.Goals as goal

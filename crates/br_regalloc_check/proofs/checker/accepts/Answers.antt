@@ -1,5 +1,5 @@
 -- The table has the rows of the function, and each check shows a part of what is asked.
-use Rattle.std.proofs.Common.{◌≡◌, ℕ, ◌<◌, ◌↔◌, ◌==◌, IsTrue, List, map, length, refl, sym, ap, subst, ◌∙◌, arith}
+use Rattle.std.proofs.Common.{◌≡◌, ℕ, ◌<◌, ◌↔◌, ◌==◌, IsTrue, List, map, length, sym, ap, subst, ◌∙◌, arith}
 use Rattle.std.specs.Prelude.{slice_index, sum}
 use Rattle.br_flatimp.specs.declared.program.Stmt.{Stmt}
 use Rattle.br_flatimp.specs.Liveness.{before_all, is_in, live, moments}
@@ -51,12 +51,11 @@ returns-then-not-are_apart_at_start c =
     let to : List ℕ = c.as_slice-to.result.now in
     let body : List Stmt = c.as_slice-body.result.now in
     let stands = subst (λ b. StandsAt (rows c.args.live.now) 0 f.names (moments (map live b) (is_in f.results))) (sym c.as_slice-body.ensures) (rows-stand f (rows c.args.live.now) c.requires.live) in
-    let found = c.are_apart_at_start.ensures f.names (is_in f.results) stands in
-    (
+    let found = c.are_apart_at_start.ensures f.names (is_in f.results) stands in (
       λ no. absurd (cc no),
       λ all. absurd (let apart : StartApart f to = start-checked f to (subst (IsAccepted f) (sym c.as_slice-to.ensures) all) in
-      let sure = found.1 (subst (λ b. 0 < length b → AreApartBelow (length to) (slice_index to) (before_all b (is_in f.results))) (sym c.as_slice-body.ensures) apart) in
-      let not_so = c.if-not-are_apart_at_start.true in cc (sure, not_so)),
+          let sure = found.1 (subst (λ b. 0 < length b → AreApartBelow (length to) (slice_index to) (before_all b (is_in f.results))) (sym c.as_slice-body.ensures) apart) in
+          let not_so = c.if-not-are_apart_at_start.true in cc (sure, not_so)),
     )
 
 pub returns : goal.returns
@@ -72,9 +71,8 @@ returns c =
     let args : IsTrue (all_differ (map (slice_index to) f.args)) = subst (λ xs. IsTrue (all_differ (map (slice_index to) xs))) c.as_slice.ensures (sym c.differ.ensures ∙ c.if-not-differ.false) in
     let results : IsTrue (all_differ (map (slice_index to) f.results)) = subst (λ xs. IsTrue (all_differ (map (slice_index to) xs))) c.as_slice-2.ensures (sym c.differ-2.ensures ∙ c.if-not-differ-2.false) in
     let walk = subst (λ b. IsTrue c.may_rename_all.result ↔ May (length to) (slice_index to) (moments (map live b) (is_in f.results))) c.as_slice-body.ensures
-    (c.may_rename_all.ensures.may f.names (is_in f.results) stands) in
-    (
+    (c.may_rename_all.ensures.may f.names (is_in f.results) stands) in (
       λ sure. subst (IsAccepted f) c.as_slice-to.ensures
-      (accepted c.loops_take_one_turn.ensures.holds f to c.requires.names (eq_true (length to) f.names names.0) names.1 args results apart (walk.0 sure)),
+          (accepted c.loops_take_one_turn.ensures.holds f to c.requires.names (eq_true (length to) f.names names.0) names.1 args results apart (walk.0 sure)),
       λ all. walk.1 (walk-checked f to (subst (IsAccepted f) (sym c.as_slice-to.ensures) all)),
     )

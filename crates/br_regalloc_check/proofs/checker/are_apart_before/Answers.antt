@@ -1,5 +1,5 @@
 -- A name that is refused is live before the statement, and so is no name that was passed.
-use Rattle.std.proofs.Common.{◌≡◌, ℕ, ◌<◌, IsTrue, length, sym, refl, ◌∙◌, arith, below_more}
+use Rattle.std.proofs.Common.{ℕ, ◌<◌, IsTrue, length, sym, refl, ◌∙◌, arith, below_more}
 use Rattle.std.specs.Prelude.{slice_index}
 use Rattle.br_flatimp.specs.Liveness.{before}
 use Rattle.br_regalloc_check.specs.Walks.{IsApartBelow}

@@ -1,12 +1,11 @@
 -- Form by form: the names that a statement writes itself, and then the statements in its parts.
-use Rattle.std.proofs.Common.{rules, ◌≡◌, ◌↔◌, ℕ, ◌+◌, ◌<◌, ◌≤◌, true, false, IsTrue, List, [], ◌∷◌, ◌++◌, length, map, drop, refl, ap, subst, sym, ◌∙◌, arith}
+use Rattle.std.proofs.Common.{rules, ◌≡◌, ◌↔◌, ℕ, ◌+◌, ◌<◌, false, IsTrue, List, [], ◌∷◌, ◌++◌, length, map, drop, refl, ap, subst, sym, ◌∙◌, arith}
 use Rattle.std.specs.Prelude.{slice_index, sum}
 use Rattle.std.specs.List.{AllByRecursion}
 use Rattle.std.proofs.Math.ListN.{drop_of_length-le}
 use Rattle.br_flatimp.specs.declared.program.Stmt.{Stmt}
 use Rattle.br_flatimp.specs.declared.program.Stmt.TheFolds.{the_lemmas}
 use Rattle.br_flatimp.specs.Sizes.{statement_count}
-use Rattle.br_flatimp.specs.Values.{Names}
 use Rattle.br_flatimp.specs.Liveness.{Moment, before_all, live, moments}
 use Rattle.br_flatimp.specs.WellFormed.{all_differ}
 use Rattle.br_live.specs.BitSets.{set_of}
@@ -22,9 +21,22 @@ pub may_rename-may_rename_all-requires : goal.may_rename-may_rename_all-requires
 may_rename-may_rename_all-requires t c =
     let n : ℕ = length c.args.to.now in
     let count = count-buffer c.args.s.now c.in-Stackalloc.x c.in-Stackalloc.field-1 c.in-Stackalloc.body c.in-Stackalloc.is in
-    let same : sum (map statement_count c.as_slice-body.result.now) ≡ sum (map statement_count c.in-Stackalloc.body) = ap (λ b. sum (map statement_count b)) c.as_slice-body.ensures in
-    (search (rules, the_lemmas), (c.requires.bound, (c.requires.count, (c.requires.few, (omega (arith, count, same, c.requires.room),
-    rw c.as_slice-body.ensures (below-stackalloc n c.in-Stackalloc.x c.in-Stackalloc.field-1 c.in-Stackalloc.body (below-as n c.args.s.now _ c.in-Stackalloc.is c.requires.names)).1)))))
+    let same : sum (map statement_count c.as_slice-body.result.now) ≡ sum (map statement_count c.in-Stackalloc.body) = ap (λ b. sum (map statement_count b)) c.as_slice-body.ensures in (
+      search (rules, the_lemmas),
+      (
+        c.requires.bound,
+        (
+          c.requires.count,
+          (
+            c.requires.few,
+            (
+              omega (arith, count, same, c.requires.room),
+              rw c.as_slice-body.ensures (below-stackalloc n c.in-Stackalloc.x c.in-Stackalloc.field-1 c.in-Stackalloc.body (below-as n c.args.s.now _ c.in-Stackalloc.is c.requires.names)).1,
+            ),
+          ),
+        ),
+      ),
+    )
 
 pub may_rename-differ-requires : goal.may_rename-differ-requires
 may_rename-differ-requires t c =
@@ -52,9 +64,22 @@ pub may_rename-may_rename_all-requires-in-If : goal.may_rename-may_rename_all-re
 may_rename-may_rename_all-requires-in-If t c =
     let n : ℕ = length c.args.to.now in
     let count = count-pair c.args.s.now c.in-If.first c.in-If.second c.in-If.is in
-    let same : sum (map statement_count c.as_slice.result.now) ≡ sum (map statement_count c.in-If.first) = ap (λ b. sum (map statement_count b)) c.as_slice.ensures in
-    (search (rules, the_lemmas), (c.requires.bound, (c.requires.count, (c.requires.few, (omega (arith, count, same, c.requires.room),
-    rw c.as_slice.ensures (below-pair n c.args.s.now c.in-If.first c.in-If.second c.in-If.is c.requires.names).0)))))
+    let same : sum (map statement_count c.as_slice.result.now) ≡ sum (map statement_count c.in-If.first) = ap (λ b. sum (map statement_count b)) c.as_slice.ensures in (
+      search (rules, the_lemmas),
+      (
+        c.requires.bound,
+        (
+          c.requires.count,
+          (
+            c.requires.few,
+            (
+              omega (arith, count, same, c.requires.room),
+              rw c.as_slice.ensures (below-pair n c.args.s.now c.in-If.first c.in-If.second c.in-If.is c.requires.names).0,
+            ),
+          ),
+        ),
+      ),
+    )
 
 pub may_rename-may_rename_all-requires-then-may_rename_all : goal.may_rename-may_rename_all-requires-then-may_rename_all
 may_rename-may_rename_all-requires-then-may_rename_all t c =
@@ -62,9 +87,22 @@ may_rename-may_rename_all-requires-then-may_rename_all t c =
     let count = count-pair c.args.s.now c.in-If.first c.in-If.second c.in-If.is in
     let same : sum (map statement_count c.as_slice.result.now) ≡ sum (map statement_count c.in-If.first) = ap (λ b. sum (map statement_count b)) c.as_slice.ensures in
     let other : sum (map statement_count c.as_slice-then-may_rename_all.result.now) ≡ sum (map statement_count c.in-If.second) = ap (λ b. sum (map statement_count b)) c.as_slice-then-may_rename_all.ensures in
-    let moved = c.may_rename_all-in-If.ensures.moved c.if-may_rename_all.true in
-    (search (rules, the_lemmas), (c.requires.bound, (c.requires.count, (c.requires.few, (omega (arith, count, same, other, moved, c.requires.room),
-    rw c.as_slice-then-may_rename_all.ensures (below-pair n c.args.s.now c.in-If.first c.in-If.second c.in-If.is c.requires.names).1)))))
+    let moved = c.may_rename_all-in-If.ensures.moved c.if-may_rename_all.true in (
+      search (rules, the_lemmas),
+      (
+        c.requires.bound,
+        (
+          c.requires.count,
+          (
+            c.requires.few,
+            (
+              omega (arith, count, same, other, moved, c.requires.room),
+              rw c.as_slice-then-may_rename_all.ensures (below-pair n c.args.s.now c.in-If.first c.in-If.second c.in-If.is c.requires.names).1,
+            ),
+          ),
+        ),
+      ),
+    )
 
 pub may_rename-returns-then-is_apart_before_part-clause-moved : goal.may_rename-returns-then-is_apart_before_part-clause-moved
 may_rename-returns-then-is_apart_before_part-clause-moved t c = λ sure.
@@ -152,9 +190,22 @@ may_rename-returns-else-may_rename_all-clause-may t c = λ names after h.
 
 pub may_rename_all-may_rename-requires : goal.may_rename_all-may_rename-requires
 may_rename_all-may_rename-requires t c =
-    let count = item-count c.args.body.now c.loop-s.s-index c.s-item.result c.loop-s-test.true c.s-item.is in
-    (search (rules, the_lemmas), (c.requires.bound, (c.requires.count, (c.requires.few, (omega (arith, count, c.loop-s.invariant.at, c.requires.room),
-    below-item (length c.args.to.now) c.args.body.now c.loop-s.s-index c.s-item.result c.loop-s-test.true c.s-item.is c.requires.names)))))
+    let count = item-count c.args.body.now c.loop-s.s-index c.s-item.result c.loop-s-test.true c.s-item.is in (
+      search (rules, the_lemmas),
+      (
+        c.requires.bound,
+        (
+          c.requires.count,
+          (
+            c.requires.few,
+            (
+              omega (arith, count, c.loop-s.invariant.at, c.requires.room),
+              below-item (length c.args.to.now) c.args.body.now c.loop-s.s-index c.s-item.result c.loop-s-test.true c.s-item.is c.requires.names,
+            ),
+          ),
+        ),
+      ),
+    )
 
 pub may_rename_all-returns-then-not-may_rename-clause-may : goal.may_rename_all-returns-then-not-may_rename-clause-may
 may_rename_all-returns-then-not-may_rename-clause-may t c = λ names after h.
@@ -167,8 +218,7 @@ may_rename_all-returns-then-not-may_rename-clause-may t c = λ names after h.
     let others : List Moment = moments (map live rest) after in
     let here : StandsAt rs c.loop-s.at names (one ++ others) = subst (StandsAt rs c.loop-s.at names) split (c.loop-s.invariant.stands names after h) in
     let may = c.may_rename.ensures.may names (before_all rest after) (stands-first rs c.loop-s.at names one others here) in
-    let no : c.may_rename.result ≡ false = c.if-not-may_rename.true in
-    (
+    let no : c.may_rename.result ≡ false = c.if-not-may_rename.true in (
       λ false_is. absurd (cc false_is),
       λ all. absurd (let sure = may.1 (all-split (MayRenameBelow n to) one others (subst (May n to) split ((c.loop-s.invariant.may names after h).0 all))).0 in cc (sure, no)),
     )
@@ -196,8 +246,7 @@ may_rename_all-loop-s-preserved t c =
           let one : List Moment = (live c.s-item.result).moments (before_all rest after) in
           let others : List Moment = moments (map live rest) after in
           let here : StandsAt rs c.loop-s.at names (one ++ others) = subst (StandsAt rs c.loop-s.at names) split (c.loop-s.invariant.stands names after h) in
-          let item = c.may_rename.ensures.may names (before_all rest after) (stands-first rs c.loop-s.at names one others here) in
-          (
+          let item = c.may_rename.ensures.may names (before_all rest after) (stands-first rs c.loop-s.at names one others here) in (
             λ all. (all-split (MayRenameBelow n to) one others (subst (May n to) split ((c.loop-s.invariant.may names after h).0 all))).1,
             λ later. (c.loop-s.invariant.may names after h).1 (subst (May n to) (sym split) (all-join (MayRenameBelow n to) one others (item.0 sure) later)),
           );

@@ -1,5 +1,5 @@
 -- The rows from here on are those of the statements from here on, which may be renamed exactly where all may.
-use Rattle.std.proofs.Common.{◌≡◌, ◌+◌, ◌↔◌, IsTrue, ℕ, length, map, drop}
+use Rattle.std.proofs.Common.{◌≡◌, ◌+◌, ◌↔◌, ℕ, length, map, drop}
 use Rattle.std.specs.Prelude.{slice_index, sum}
 use Rattle.std.specs.List.{AllByRecursion}
 use Rattle.br_flatimp.specs.Liveness.{live, moments}
