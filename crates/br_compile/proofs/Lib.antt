@@ -1,5 +1,6 @@
 mod Needing
 mod Passes
+mod Counts
 mod Composed
 mod Fronts
 mod Unrefused

@@ -9,6 +9,7 @@ ghost use Rattle.br_syntax.specs.declared.program.Func.{Func};
 ghost use Rattle.br_measure.specs.Faults.{IsSound};
 ghost use Rattle.br_flatimp.specs.Liveness.{has_no_dead};
 ghost use Rattle.br_flatimp.specs.Missed.{has_no_missed};
+ghost use Rattle.br_flatimp.specs.WellFormed.{IsWellFormed};
 ghost use Rattle.br_compile.specs.declared.refusal.Refusal.{Refusal};
 ghost use Rattle.br_compile.specs.Refusal.{most_bytes, Accepts, IsFaultOf, IsShapeRefusal, IsNameRefusal};
 ghost use Rattle.br_compile.specs.Lowered.{IsFlat, IsInRegisters, IsLean, IsLowered};
@@ -16,10 +17,13 @@ ghost use Rattle.br_compile.specs.Lowered.{IsFlat, IsInRegisters, IsLean, IsLowe
 use crate::refusal::Refusal;
 use br_base::{NoMemory, OrMemory};
 use br_deadcode::remove_dead;
-use br_flatimp::{FlatProgram, refines_composes};
+use br_flatimp::{FlatFunc, FlatProgram, Proposal, refines_composes};
 use br_flatten::flatten;
 use br_immediates::use_immediates;
+use br_live::names_are_below;
 use br_measure::{Checked, check, measures_add_up, sound_programs_have_no_fault};
+use br_regalloc_check::assign;
+use br_regalloc_propose::propose;
 use br_sexpr::{Tree, one_answer, read};
 use br_spill::{layouts_fit, spill, spilled_functions_keep_sizes};
 use br_stack_need::{needs, needs_are_bounded};
@@ -94,15 +98,45 @@ fn in_registers(alloc: Global, program: &Checked) -> Result<FlatProgram, NoMemor
     Ok(spilled)
 }
 
-// The passes between flattening and register form.
+// The flat program whose functions have the names that are proposed, each where it may. What is lean
+// before it takes new names is made lean once more, since two names may have become one.
 fn flat_program(alloc: Global, program: &Checked) -> Result<FlatProgram, NoMemory>
     ensures flat { IfOk result (λ q. IsFlat q.funcs program.now) }
     ensures none_missed { IfOk result (λ q. IsTrue (list_all has_no_missed q.funcs)) }
     ensures none_dead { IfOk result (λ q. IsTrue (list_all has_no_dead q.funcs)) }
 {
     refines_composes();
+    let _source = program.program();
     let first = flatten(alloc, program)?;
-    let constants = use_immediates(alloc, first)?;
+    let small = lean_program(alloc, first)?;
+    let proposals = proposals_for(alloc, small.funcs.as_slice())?;
+    let named = assign(alloc, small, proposals.as_slice())?;
+    let lean = lean_program(alloc, named)?;
+    Ok(lean)
+}
+
+// What is proposed for each function.
+fn proposals_for(alloc: Global, fs: &[FlatFunc]) -> Result<Vec<Proposal>, NoMemory>
+    requires { IsWellFormed fs.now }
+    ensures { IfOk result (λ ps. length ps.items ≡ length fs.now) }
+{
+    names_are_below();
+    let mut proposals = Vec::new(alloc);
+    for f in fs {
+        proposals.push(propose(alloc, f)?)?;
+    }
+    Ok(proposals)
+}
+
+// A flat program with constants for names where they fit, and without dead statements.
+fn lean_program(alloc: Global, p: FlatProgram) -> Result<FlatProgram, NoMemory>
+    requires { IsWellFormed p.funcs }
+    ensures flat { IfOk result (λ q. (fs : List Func) → IsFlat p.funcs fs → IsFlat q.funcs fs) }
+    ensures none_missed { IfOk result (λ q. IsTrue (list_all has_no_missed q.funcs)) }
+    ensures none_dead { IfOk result (λ q. IsTrue (list_all has_no_dead q.funcs)) }
+{
+    refines_composes();
+    let constants = use_immediates(alloc, p)?;
     let live = remove_dead(alloc, constants)?;
     Ok(live)
 }

@@ -1,5 +1,5 @@
 -- Programs whose functions have taken new names.
-use Rattle.std.specs.Prelude.{◌≡◌, ℕ, suc, Bool, List, [], ◌∷◌, map, slice_index, IsTrue, ◌⊎◌}
+use Rattle.std.specs.Prelude.{◌≡◌, ℕ, suc, List, [], ◌∷◌, map, slice_index, ◌⊎◌}
 use Rattle.br_flatimp.specs.declared.program.FlatFunc.{FlatFunc}
 use Rattle.br_flatimp.specs.declared.program.Proposal.{Proposal}
 use Rattle.br_flatimp.specs.Parts.{function_names}
@@ -37,10 +37,3 @@ AreAssigned [] [] (p ∷ ps) = ⊥
 AreAssigned [] (f ∷ fs) ps = ⊥
 AreAssigned (q ∷ qs) [] ps = ⊥
 AreAssigned (q ∷ qs) (f ∷ fs) [] = ⊥
-
--- what holds of a function holds of the one in its place
-abbrev pub KeepEach : (FlatFunc → Bool) → List FlatFunc → List FlatFunc → Type 0
-KeepEach test [] [] = Unit {0}
-KeepEach test (q ∷ qs) (f ∷ fs) = (IsTrue (test f) → IsTrue (test q)) × KeepEach test qs fs
-KeepEach test [] (f ∷ fs) = ⊥
-KeepEach test (q ∷ qs) [] = ⊥

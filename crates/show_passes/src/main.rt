@@ -1,23 +1,22 @@
-//! Reads a source text and prints its flat program after each pass of `lower`, one statement a line.
-//! For those who work on the passes: the program `brc` has no word for it.
+//! Reads a source text and prints its flat program after flattening and after each pass that makes it
+//! smaller, and then what `lower` makes of it, one statement a line. For those who work on the passes:
+//! the program `brc` has no word for it.
 #![tactic(auto)]
 
 mod statements;
 
 use anyhow::{Result, bail};
 use br_base::{StdSource, read_all};
+use br_compile::{MOST_BYTES, lower};
 use br_deadcode::remove_dead;
 use br_flatimp::FlatProgram;
 use br_flatten::flatten;
 use br_immediates::use_immediates;
 use br_measure::{Checked, check};
 use br_sexpr::read;
-use br_spill::spill;
 use br_syntax::from_tree;
 use statements::write_function;
 use std::alloc::Global;
-
-const MOST_BYTES: usize = 1_048_576;
 
 fn main(rt: HostRuntime) -> Result<()> {
     let Ok(text) = read_all(rt.alloc(), &mut StdSource::new(rt.stdin()), MOST_BYTES) else {
@@ -36,10 +35,10 @@ fn main(rt: HostRuntime) -> Result<()> {
         bail!("no memory");
     };
     show(&rt, "remove dead", 'n', &flat)?;
-    let Ok(flat) = spill(rt.alloc(), flat) else {
+    let Ok(lowered) = lower(rt.alloc(), &text) else {
         bail!("no memory");
     };
-    show(&rt, "spill", 'x', &flat)
+    show(&rt, "lower", 'x', &lowered.flat)
 }
 
 /// The program of a text.
