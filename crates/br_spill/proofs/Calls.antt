@@ -97,8 +97,8 @@ at-returned g s t h u v n vs outside few size = record {
       };
 }
   where
-    apart : (r : ℕ) → holds_names g.layout.slots r ≡ true → (r < 10) ⊎ (10 + n ≤ r)
-    apart r is = by_place r 10 18 (λ l. inl l) (λ l high. absurd (not_passing g.layout.slots r is l (omega (arith, high)))) (λ l high. inr (omega (arith, high, few)))
+    apart : (r : ℕ) → holds_names g.layout.registers g.layout.slots r ≡ true → (r < 10) ⊎ (10 + n ≤ r)
+    apart r is = by_place r 10 18 (λ l. inl l) (λ l high. absurd (not_passing g.layout.registers g.layout.slots r is l (omega (arith, high)))) (λ l high. inr (omega (arith, high, few)))
 
 pub call-follows : (fs : List FlatFunc) (g : Scene) (q p : Callee) → CalleesFollow fs q p → (xs : List ℕ) (n : ℕ) (ys : List ℕ) (s t : State)
     → are_below g.names xs ≡ true → are_below g.names ys ≡ true → counts_fit (slice_get fs n) (length xs) (length ys) ≡ true → At g s t

@@ -1,47 +1,54 @@
--- Programs in register form miss no operand and have no dead statement but copies in their functions without
--- buffers, where those that they come from miss none and have no dead one.
-use Rattle.std.proofs.Common.{◌≡◌, ℕ, ◌≤◌, ◌&&◌, nat_le, Bool, true, false, List, [], ◌∷◌, refl, ◌∙◌, arith}
+-- Functions by fitting layouts that have no more buffers than those that they come from miss no operand and have no
+-- dead statement but copies, where those miss none and have no dead one.
+use Rattle.std.proofs.Common.{◌≡◌, ℕ, ◌≤◌, true, List, [], ◌∷◌, sym, subst, ◌∙◌, arith}
 use Rattle.std.specs.List.{list_all}
-use Rattle.std.proofs.lemmas.Bool.Decides.{nat_tests}
 use Rattle.br_flatimp.specs.declared.program.FlatFunc.{FlatFunc}
-use Rattle.br_flatimp.specs.WellFormed.{is_list_of_names, is_well_formed_statement, is_well_formed_head, is_well_formed_function, names_differ, IsWellFormed}
-use Rattle.br_spill.specs.Spill.{Fits, layout_of, spilled_function, spilled_program, StaysLean, StayLean}
+use Rattle.br_flatimp.specs.WellFormed.{is_well_formed_function, names_differ, IsWellFormed}
+use Rattle.br_spill.specs.Spill.{Layout, Fits, layout_of, spilled_function, spilled_program, SpilledFunctions, buffers, IsAsLean, AreAsLean, StaysLean, StayLean}
 use Rattle.br_spill.proofs.Form.{and-first, and-second}
-use Rattle.br_spill.proofs.Layouts.{layout-fits, few-slots}
+use Rattle.br_spill.proofs.Layouts.{few-slots, well-formed-spilled}
+use Rattle.br_spill.specs.declared.place.Kind.TheVariants.{Narrow}
 use Rattle.br_spill.proofs.Sizes.{buffers-stay, no-slots}
 use Rattle.br_spill.proofs.Missed.{no-more-missed}
 use Rattle.br_spill.proofs.Dead.{none-wasted}
 
-few-names : (f : FlatFunc) → is_well_formed_head f ≡ true → f.names ≤ 1048576
-few-names f h = at-most f.names (first (nat_le f.names 1048576) (is_list_of_names f.names f.args) (is_list_of_names f.names f.results) h)
-  where
-    at-most : (a : ℕ) → nat_le a 1048576 ≡ true → a ≤ 1048576
-    at-most a e = grind (arith, nat_tests)
-
-    first : (a b c : Bool) → (a && b && c) ≡ true → a ≡ true
-    first true b c h = refl
-    first false b c h = absurd (cc h)
-
-function-lean : (ps : List FlatFunc) → list_all (is_well_formed_function ps) ps ≡ true → (f : FlatFunc) → is_well_formed_function ps f ≡ true
-    → StaysLean (spilled_function (layout_of f.names) f) f
-function-lean ps formed f h = record {
-  none_missed = λ none missed. no-more-missed ps (layout_of f.names) f fits (no-slots (layout_of f.names) f none) h ∙ missed;
-  none_dead = λ none dead. none-wasted ps formed (layout_of f.names) f fits (no-slots (layout_of f.names) f none) h dead;
-  few = λ few. buffers-stay (layout_of f.names) f (few-slots f.names few);
+function-lean : (ps : List FlatFunc) → list_all (is_well_formed_function ps) ps ≡ true → (l : Layout) (f : FlatFunc) → Fits f.names l → is_well_formed_function ps f ≡ true
+    → IsAsLean (spilled_function l f) f
+function-lean ps formed l f fits h = record {
+  none_missed = λ few missed. no-more-missed ps l f fits (no-slots l f few) h ∙ missed;
+  none_dead = λ few dead. none-wasted ps formed l f fits (no-slots l f few) h dead;
 }
-  where
-    fits : Fits f.names (layout_of f.names)
-    fits = layout-fits f.names (few-names f (and-first (is_well_formed_head f) (list_all (is_well_formed_statement ps f.names) f.body) h))
 
-functions-lean : (ps : List FlatFunc) → list_all (is_well_formed_function ps) ps ≡ true → (fs : List FlatFunc) → list_all (is_well_formed_function ps) fs ≡ true
-    → StayLean (spilled_program fs) fs
-functions-lean ps formed [] h = tt
-functions-lean ps formed (f ∷ fs) h = (
-  function-lean ps formed f (and-first (is_well_formed_function ps f) (list_all (is_well_formed_function ps) fs) h),
-  functions-lean ps formed fs (and-second (is_well_formed_function ps f) (list_all (is_well_formed_function ps) fs) h),
+functions-lean : (ps : List FlatFunc) → list_all (is_well_formed_function ps) ps ≡ true → (qs fs : List FlatFunc) → SpilledFunctions qs fs → list_all (is_well_formed_function ps) fs ≡ true
+    → AreAsLean qs fs
+functions-lean ps formed [] [] spilled h = tt
+functions-lean ps formed [] (f ∷ fs) spilled h = absurd spilled
+functions-lean ps formed (q ∷ qs) [] spilled h = absurd spilled
+functions-lean ps formed (q ∷ qs) (f ∷ fs) spilled h = (
+  subst (λ r. IsAsLean r f) (sym spilled.0.2) (function-lean ps formed spilled.0.0 f spilled.0.1 (and-first (is_well_formed_function ps f) (list_all (is_well_formed_function ps) fs) h)),
+  functions-lean ps formed qs fs spilled.1 (and-second (is_well_formed_function ps f) (list_all (is_well_formed_function ps) fs) h),
 )
 
-pub program-lean : (ps : List FlatFunc) → IsWellFormed ps → StayLean (spilled_program ps) ps
-program-lean ps h =
+pub programs-lean : (qs ps : List FlatFunc) → IsWellFormed ps → SpilledFunctions qs ps → AreAsLean qs ps
+programs-lean qs ps h spilled =
     let formed = and-second (names_differ ps) (list_all (is_well_formed_function ps) ps) h in
-    functions-lean ps formed ps formed
+    functions-lean ps formed qs ps spilled formed
+
+-- ---- programs in register form
+
+none-more : (a b : ℕ) → a ≡ 0 → a ≤ b
+none-more a b none = omega (arith, none)
+
+stays-lean : (f : FlatFunc) → IsAsLean (spilled_function (layout_of f.names) f) f → StaysLean (spilled_function (layout_of f.names) f) f
+stays-lean f lean = record {
+  none_missed = λ none missed. lean.none_missed (none-more (buffers (spilled_function (layout_of f.names) f)) (buffers f) none) missed;
+  none_dead = λ none dead. lean.none_dead (none-more (buffers (spilled_function (layout_of f.names) f)) (buffers f) none) dead;
+  few = λ few. buffers-stay (layout_of f.names) f (few-slots f.names few);
+}
+
+stay-lean : (fs : List FlatFunc) → AreAsLean (spilled_program fs) fs → StayLean (spilled_program fs) fs
+stay-lean [] lean = tt
+stay-lean (f ∷ fs) lean = (stays-lean f lean.0, stay-lean fs lean.1)
+
+pub program-lean : (ps : List FlatFunc) → IsWellFormed ps → StayLean (spilled_program ps) ps
+program-lean ps h = stay-lean ps (programs-lean (spilled_program ps) ps h (well-formed-spilled Narrow ps h))

@@ -22,3 +22,4 @@ pub mod Plain
 pub mod Missed
 pub mod Dead
 pub mod Lean
+pub mod Registers

@@ -187,14 +187,14 @@ pub at-not_base : (g : Scene) (x : ℕ) → x < g.names → g.layout.slots ≢ 0
 at-not_base g x less some = by (g.layout.place x) refl
   where
     by : (p : Place) → g.layout.place x ≡ p → at p 4 ≢ 3
-    by (Register r) place e = let six = from_six g.layout.slots r (in_register g x r less place) some in omega (arith, six, e)
+    by (Register r) place e = let six = from_six g.layout.registers g.layout.slots r (in_register g x r less place) some in omega (arith, six, e)
     by (Slot k) place e = omega (arith, e)
 
 pub at-not_five : (g : Scene) (x : ℕ) → x < g.names → g.layout.slots ≢ 0 → at (g.layout.place x) 4 ≢ 5
 at-not_five g x less some = by (g.layout.place x) refl
   where
     by : (p : Place) → g.layout.place x ≡ p → at p 4 ≢ 5
-    by (Register r) place e = let six = from_six g.layout.slots r (in_register g x r less place) some in omega (arith, six, e)
+    by (Register r) place e = let six = from_six g.layout.registers g.layout.slots r (in_register g x r less place) some in omega (arith, six, e)
     by (Slot k) place e = omega (arith, e)
 
 -- ---- words that are written
@@ -265,7 +265,7 @@ written g call s t x r v h less word value ne = by (g.layout.place x) refl
       after = set_to q v s;
       runs = does-step call (Stmt-F.Copy q r) [] s (set_to q v s) (copy-step call q r s v value);
       related = at-register g s t x q v h less place word;
-      passing = λ y low high. with-other q v y s.locals (λ same. not_passing g.layout.slots y (in_register g x y less (place ∙ ap Register (sym same))) low high);
+      passing = λ y low high. with-other q v y s.locals (λ same. not_passing g.layout.registers g.layout.slots y (in_register g x y less (place ∙ ap Register (sym same))) low high);
     }
     by (Slot k) place = put_away-written g call s t x k r v h less place word value (ne (has_slots k g.layout.slots (in_slot g x k less place)))
 

@@ -32,13 +32,13 @@ plain names l fits none = record {
   place = in_register;
   apart = λ x y less under same. fits.apart x y less under (in_register x less ∙ ap Register same ∙ sym (in_register y under));
   free = λ x r less low high is.
-      not_passing l.slots r (subst (λ p. is_inside l.slots p ≡ true) (in_register x less ∙ ap Register is) (fits.inside x less)) low high;
+      not_passing l.registers l.slots r (subst (λ p. is_inside l.registers l.slots p ≡ true) (in_register x less ∙ ap Register is) (fits.inside x less)) low high;
 }
   where
     in_register : (x : ℕ) → x < names → l.place x ≡ Register (at (l.place x) 4)
-    in_register x less = by (l.place x) (subst (λ n. is_inside n (l.place x) ≡ true) none (fits.inside x less))
+    in_register x less = by (l.place x) (subst (λ n. is_inside l.registers n (l.place x) ≡ true) none (fits.inside x less))
       where
-        by : (p : Place) → is_inside 0 p ≡ true → p ≡ Register (at p 4)
+        by : (p : Place) → is_inside l.registers 0 p ≡ true → p ≡ Register (at p 4)
         by (Register r) h = refl
         by (Slot k) h = absurd (below-none k h)
           where

@@ -85,19 +85,19 @@ pub record Free (g : Scene) (r : ℕ) : Type 0 where
   pub base : g.layout.slots ≢ 0 → r ≢ 3
   pub apart : (x : ℕ) → x < g.names → g.layout.place x ≢ Register r
 
-pub in_register : (g : Scene) (x r : ℕ) → x < g.names → g.layout.place x ≡ Register r → holds_names g.layout.slots r ≡ true
-in_register g x r less is = subst (λ p. IsTrue (is_inside g.layout.slots p)) is (g.fits.inside x less)
+pub in_register : (g : Scene) (x r : ℕ) → x < g.names → g.layout.place x ≡ Register r → holds_names g.layout.registers g.layout.slots r ≡ true
+in_register g x r less is = subst (λ p. IsTrue (is_inside g.layout.registers g.layout.slots p)) is (g.fits.inside x less)
 
 pub in_slot : (g : Scene) (x k : ℕ) → x < g.names → g.layout.place x ≡ Slot k → k < g.layout.slots
-in_slot g x k less is = by (subst (λ p. IsTrue (is_inside g.layout.slots p)) is (g.fits.inside x less))
+in_slot g x k less is = by (subst (λ p. IsTrue (is_inside g.layout.registers g.layout.slots p)) is (g.fits.inside x less))
   where
     by : nat_lt k g.layout.slots ≡ true → k < g.layout.slots
     by e = grind (arith, nat_tests)
 
-pub not_passing : (slots r : ℕ) → holds_names slots r ≡ true → 10 ≤ r → r ≤ 17 → ⊥
-not_passing slots r is low high = by (nat_le r 9) (nat_le 18 r) refl refl is
+pub not_passing : (registers slots r : ℕ) → holds_names registers slots r ≡ true → 10 ≤ r → r ≤ 17 → ⊥
+not_passing registers slots r is low high = by (nat_le r 9) (nat_le 18 r) refl refl is
   where
-    by : (a b : Bool) → nat_le r 9 ≡ a → nat_le 18 r ≡ b → ((nat_le 3 r && a) || (b && nat_le r 31)) && ((slots == 0) || nat_le 6 r) ≡ true → ⊥
+    by : (a b : Bool) → nat_le r 9 ≡ a → nat_le 18 r ≡ b → ((nat_le 3 r && a) || (b && nat_lt r registers)) && ((slots == 0) || nat_le 6 r) ≡ true → ⊥
     by true b e f is = absurd (grind (arith, nat_tests))
     by false true e f is = absurd (grind (arith, nat_tests))
     by false false e f is = absurd (none (nat_le 3 r) ((slots == 0) || nat_le 6 r) is)
@@ -109,8 +109,8 @@ not_passing slots r is low high = by (nat_le r 9) (nat_le 18 r) refl refl is
         none false false is = absurd (cc is)
 
 -- with a buffer, names begin at 6
-pub from_six : (slots r : ℕ) → holds_names slots r ≡ true → slots ≢ 0 → 6 ≤ r
-from_six slots r is some = by (slots == 0) (nat_le 6 r) refl refl (second ((nat_le 3 r && nat_le r 9) || (nat_le 18 r && nat_le r 31)) ((slots == 0) || nat_le 6 r) is)
+pub from_six : (registers slots r : ℕ) → holds_names registers slots r ≡ true → slots ≢ 0 → 6 ≤ r
+from_six registers slots r is some = by (slots == 0) (nat_le 6 r) refl refl (second ((nat_le 3 r && nat_le r 9) || (nat_le 18 r && nat_lt r registers)) ((slots == 0) || nat_le 6 r) is)
   where
     second : (a b : Bool) → (a && b) ≡ true → b ≡ true
     second true b e = e
@@ -124,13 +124,13 @@ from_six slots r is some = by (slots == 0) (nat_le 6 r) refl refl (second ((nat_
 pub free-passing : (g : Scene) (r : ℕ) → 10 ≤ r → r ≤ 17 → Free g r
 free-passing g r low high = record {
   base = λ some same. omega (arith, low, same);
-  apart = λ x less is. not_passing g.layout.slots r (in_register g x r less is) low high;
+  apart = λ x less is. not_passing g.layout.registers g.layout.slots r (in_register g x r less is) low high;
 }
 
 pub free-spare : (g : Scene) (r : ℕ) → g.layout.slots ≢ 0 → 4 ≤ r → r ≤ 5 → Free g r
 free-spare g r some low high = record {
   base = λ some same. omega (arith, low, same);
-  apart = λ x less is. let six = from_six g.layout.slots r (in_register g x r less is) some in omega (arith, six, high);
+  apart = λ x less is. let six = from_six g.layout.registers g.layout.slots r (in_register g x r less is) some in omega (arith, six, high);
 }
 
 pub holds-locals : (base : ℕ) (e : Extra) (p : Place) (l k : Locals) (v : ℕ) → ((r : ℕ) → p ≡ Register r → k r ≡ l r) → Holds base e p l v → Holds base e p k v
@@ -184,7 +184,7 @@ at-register g s t x r v h less place word = record {
   outside = record { memory = h.outside.memory; trace = h.outside.trace; answers = h.outside.answers; words = h.outside.words; choices = h.outside.choices; fuel = h.outside.fuel };
   inner = h.inner;
   others = h.others;
-  base = λ some. with-other r v 3 s.locals (λ same. let six = from_six g.layout.slots r (in_register g x r less place) some in omega (arith, six, same)) ∙ h.base some;
+  base = λ some. with-other r v 3 s.locals (λ same. let six = from_six g.layout.registers g.layout.slots r (in_register g x r less place) some in omega (arith, six, same)) ∙ h.base some;
   held = λ y w below is.
       held-set g.frame.base h.extra (g.layout.place y) (with_local r v s.locals) t.locals x v y w word (equal_or y x) is
       (λ same. subst (λ p. Holds g.frame.base h.extra p (with_local r v s.locals) v) (sym (ap g.layout.place same ∙ place)) (with-same r v s.locals))

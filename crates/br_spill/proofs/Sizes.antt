@@ -165,12 +165,13 @@ pub buffers-stay : (l : Layout) (f : FlatFunc) → l.slots ≡ 0 → buffers (sp
 buffers-stay l f none =
     ap (λ n. total counted (in_buffer n (body_of l f))) none ∙ same-body counted l f.args f.results f.body
 
--- with no buffer there are no words of one
-pub no-slots : (l : Layout) (f : FlatFunc) → buffers (spilled_function l f) ≡ 0 → l.slots ≡ 0
-no-slots l f none = by l.slots none
+-- with no more buffers than before there are no words of one
+pub no-slots : (l : Layout) (f : FlatFunc) → buffers (spilled_function l f) ≤ buffers f → l.slots ≡ 0
+no-slots l f few = by l.slots few
   where
-    by : (n : ℕ) → total counted (in_buffer n (body_of l f)) ≡ 0 → n ≡ 0
+    by : (n : ℕ) → total counted (in_buffer n (body_of l f)) ≤ buffers f → n ≡ 0
     by zero e = refl
     by (suc n) e =
         let is : total counted (roll-Stmt (Stmt-F.Stackalloc 3 (4 * suc n) (body_of l f)) ∷ []) ≡ 1 + (0 + total counted (body_of l f)) = alone counted (Stmt-F.Stackalloc 3 (4 * suc n) (body_of l f)) in
-        absurd (omega (arith, is, e))
+        let same : total counted (body_of l f) ≡ buffers f = same-body counted l f.args f.results f.body in
+        absurd (omega (arith, is, same, e))

@@ -83,7 +83,7 @@ copy-follows g call x y s t less under h =
     by (Register r) place v is =
         let held = h.held y v under is in
         let value : s.locals r ≡ Some v = subst (λ q. Holds g.frame.base h.extra q s.locals v) place held.holds in
-        let w = written g call s t x r v h less held.word value (λ some e. let six = from_six g.layout.slots r (in_register g y r under place) some in omega (arith, six, e)) in
+        let w = written g call s t x r v h less held.word value (λ some e. let six = from_six g.layout.registers g.layout.slots r (in_register g y r under place) some in omega (arith, six, e)) in
         follows-from (At g) (does call (copy p (Register r)) s) (Goes w.after) (λ ds. Goes (given (set_to x v t) ds)) w.runs (follows-goes (At g) w.after (set_to x v t) w.related)
     by (Slot k) place v is =
         let held = h.held y v under is in

@@ -1,7 +1,8 @@
--- The flat statements in register form of each statement of a flat program. A name has a place: a register, or
--- a word of one buffer that stands around the body of its function. A word of the buffer is loaded to a spare
--- register before it is read and stored from one after it is written. Words are passed in registers that hold
--- no name.
+-- The flat statements that pass words in registers, of each statement of a flat program. A name has a place: a
+-- register, or a word of one buffer that stands around the body of its function. A word of the buffer is loaded to
+-- a spare register before it is read and stored from one after it is written. Words are passed in registers that
+-- hold no name. With at most 32 registers the statements are in register form; with more, a register of each name
+-- is left to whoever gives them new ones.
 use Rattle.std.specs.Prelude.{◌≡◌, ℕ, zero, suc, ◌+◌, ◌-◌, ◌*◌, ◌^◌, ◌<◌, ◌≤◌, Bool, true, ◌&&◌, ◌||◌, List, [], ◌∷◌, ◌++◌, map, sum, length, IsTrue, min, nat_lt, nat_le, ◌==◌, pos, if◌then◌else◌}
 use Rattle.std.specs.List.{flat_map, list_all}
 use Rattle.br_words.specs.declared.operation.BinOp.TheVariants.{Add}
@@ -17,6 +18,9 @@ use Rattle.br_flatimp.specs.declared.program.Stmt.TheFolds.{fold-Stmt}
 use Rattle.br_flatimp.specs.declared.program.FlatFunc.{FlatFunc}
 use Rattle.br_spill.specs.declared.place.Place.{Place}
 use Rattle.br_spill.specs.declared.place.Place.TheVariants.{Register, Slot}
+use Rattle.br_spill.specs.declared.place.Kind.{Kind}
+use Rattle.br_spill.specs.declared.place.Kind.TheVariants.{Narrow, Wide}
+use Rattle.br_spill.specs.declared.place.Places.{Places}
 use Rattle.br_flatimp.specs.Parts.{throughout}
 use Rattle.br_flatimp.specs.Liveness.{has_no_dead, has_no_dead_but_copies}
 use Rattle.br_flatimp.specs.Missed.{has_no_missed}
@@ -34,22 +38,27 @@ pub record Layout : Type 0 where
   pub place : ℕ → Place
   -- the words of the buffer; with none there is no buffer
   pub slots : ℕ
+  -- the registers are the numbers below this one
+  pub registers : ℕ
 
--- A register that may hold a name: none of those that pass words, and in a function with a buffer none of
--- those that are kept aside: 3 for the buffer's address, 4 and 5 for words on their way.
-abbrev pub holds_names : ℕ → ℕ → Bool
-holds_names slots r =
-    ((nat_le 3 r && nat_le r 9) || (nat_le 18 r && nat_le r 31)) && ((slots == 0) || nat_le 6 r)
+-- A register that may hold a name, of so many: none of those that pass words, and in a function with a buffer none
+-- of those that are kept aside: 3 for the buffer's address, 4 and 5 for words on their way.
+abbrev pub holds_names : ℕ → ℕ → ℕ → Bool
+holds_names registers slots r =
+    ((nat_le 3 r && nat_le r 9) || (nat_le 18 r && nat_lt r registers)) && ((slots == 0) || nat_le 6 r)
 
-abbrev pub is_inside : ℕ → Place → Bool
-is_inside slots (Register r) = holds_names slots r
-is_inside slots (Slot k) = nat_lt k slots
+abbrev pub is_inside : ℕ → ℕ → Place → Bool
+is_inside registers slots (Register r) = holds_names registers slots r
+is_inside registers slots (Slot k) = nat_lt k slots
 
--- a layout for so many names: each has a place of its own
+-- A layout for so many names: each has a place of its own. The registers that pass words and those that are kept
+-- aside are among the registers, which are no more than the names that a function may have.
 pub record Fits (names : ℕ) (l : Layout) : Type 0 where
-  pub inside : (x : ℕ) → x < names → IsTrue (is_inside l.slots (l.place x))
+  pub inside : (x : ℕ) → x < names → IsTrue (is_inside l.registers l.slots (l.place x))
   pub apart : (x y : ℕ) → x < names → y < names → l.place x ≡ l.place y → x ≡ y
   pub few : l.slots ≤ names
+  pub enough : 18 ≤ l.registers
+  pub most : l.registers ≤ 1048576
 
 -- ---- words of the buffer
 
@@ -177,7 +186,7 @@ spilled_function l f = record {
   name = f.name;
   args = in_order 10 (length f.args);
   results = in_order 10 (length f.results);
-  names = 32;
+  names = l.registers;
   body = in_buffer l.slots (takes (map l.place f.args) 10 ++ (joined (map (spilled l) f.body) ++ passes (map l.place f.results) 10));
 }
 
@@ -210,6 +219,19 @@ abbrev pub buffers : FlatFunc → ℕ
 buffers f = sum (map (added own_buffers) f.body)
 
 -- ---- operands and dead statements
+
+-- A function beside the one that it comes from. Where it has no more buffers than that one it misses no operand if
+-- that one misses none, and has no dead statement but copies if that one has no dead one.
+pub record IsAsLean (q p : FlatFunc) : Type 0 where
+  pub none_missed : buffers q ≤ buffers p → IsTrue (has_no_missed p) → IsTrue (has_no_missed q)
+  pub none_dead : buffers q ≤ buffers p → IsTrue (has_no_dead p) → IsTrue (has_no_dead_but_copies q)
+
+-- each function beside the one that it comes from
+abbrev pub AreAsLean : List FlatFunc → List FlatFunc → Type 0
+AreAsLean [] [] = Unit {0}
+AreAsLean (q ∷ qs) (p ∷ ps) = IsAsLean q p × AreAsLean qs ps
+AreAsLean [] (p ∷ ps) = ⊥
+AreAsLean (q ∷ qs) [] = ⊥
 
 -- A function in register form beside the one that it comes from. Where it has no buffer it misses no operand if
 -- that one misses none, and has no dead statement but copies if that one has no dead one. One of at most 21
@@ -265,9 +287,40 @@ more_places x = if nat_lt x 18 then Register (register_of 6 x) else Slot (min x 
 -- names; a number past the last of them counts as the last.
 abbrev pub layout_of : ℕ → Layout
 layout_of names =
-    if nat_le names 21 then record { place = few_places; slots = 0 }
-    else record { place = more_places; slots = min names 1048576 - 18 }
+    if nat_le names 21 then record { place = few_places; slots = 0; registers = 32 }
+    else record { place = more_places; slots = min names 1048576 - 18; registers = 32 }
+
+abbrev pub wide_places : ℕ → Place
+wide_places x = Register (32 + min x 1048543)
+
+-- Each name has a register of its own past the first 32, while these are no more than the names that a function
+-- may have. Past that the layout is as it is in register form.
+abbrev pub wide_layout : ℕ → Layout
+wide_layout names =
+    if nat_le names 1048544 then record { place = wide_places; slots = 0; registers = 32 + names }
+    else layout_of names
+
+abbrev pub layout_by : Kind → ℕ → Layout
+layout_by Narrow names = layout_of names
+layout_by Wide names = wide_layout names
+
+abbrev pub layout_in : Places → Layout
+layout_in places = layout_by places.kind places.names
+
+-- ---- programs
+
+-- each function by the layout of its names
+abbrev pub program_by : Kind → List FlatFunc → List FlatFunc
+program_by kind = map (λ f. spilled_function (layout_by kind f.names) f)
 
 -- a program in register form
 abbrev pub spilled_program : List FlatFunc → List FlatFunc
-spilled_program = map (λ f. spilled_function (layout_of f.names) f)
+spilled_program = program_by Narrow
+
+-- a program that passes words in registers, with a register for each name where there are as many
+abbrev pub wide_program : List FlatFunc → List FlatFunc
+wide_program = program_by Wide
+
+-- a function whose names are at most 32, so that each is a register
+abbrev pub is_narrow : FlatFunc → Bool
+is_narrow f = nat_le f.names 32

@@ -4,90 +4,91 @@ ghost use Rattle.std.specs.Prelude.{◌≡◌, [], ◌∷◌, ◌++◌, true, ma
 ghost use Rattle.std.specs.List.{list_all};
 ghost use Rattle.br_flatimp.specs.Parts.{throughout};
 ghost use Rattle.br_flatimp.specs.declared.program.Stmt.TheVariants.{Call, Lit, Load, Op, Read, Store, Table, Write};
-ghost use Rattle.br_spill.specs.Spill.{IsNear, bring, bring_operand, bring_test, joined, keep, layout_of, operand_at, spilled, test_at, words_fit};
+ghost use Rattle.br_spill.specs.Spill.{IsNear, bring, bring_operand, bring_test, joined, keep, layout_in, operand_at, spilled, test_at, words_fit};
 
 use crate::moves::{OTHER_SPARE, SPARE, at, bring, copy, keep};
 use crate::passing::{passes, registers, takes};
-use crate::place::{Place, place_of};
+use crate::place::{Place, Places, place_of};
 use br_base::NoMemory;
 use br_flatimp::{Cond, Operand, Stmt};
 use br_words::{BinOp, Size};
 use sqlite_items::Items;
 use std::alloc::Global;
 
-/// Adds the statements in register form of statements in turn of a function with so many names.
+/// Adds the statements in register form of statements in turn of a function with such places.
 #[cycle(statement)]
 pub(crate) fn statements(
     alloc: Global,
-    names: u32,
+    places: Places,
     body: &[Stmt],
     out: &mut Items<Stmt>,
 ) -> Result<(), NoMemory>
-    ensures code { OnOk result (out.new ≡ out.old ++ joined (map (spilled (layout_of names)) body.now)) }
+    ensures code { OnOk result
+        (out.new ≡ out.old ++ joined (map (spilled (layout_in places)) body.now)) }
     ensures words { OnOk result (list_all (throughout words_fit) body.now ≡ true) }
 {
     for s in body {
-        statement(alloc, names, s, out)?;
+        statement(alloc, places, s, out)?;
     }
     Ok(())
 }
 
 #[cycle(statement)]
 #[tactic(auto, using(crate::proofs::Parts::words))]
-fn statement(alloc: Global, names: u32, s: &Stmt, out: &mut Items<Stmt>) -> Result<(), NoMemory>
-    ensures code { OnOk result (out.new ≡ out.old ++ spilled (layout_of names) s.now) }
+fn statement(alloc: Global, places: Places, s: &Stmt, out: &mut Items<Stmt>) -> Result<(), NoMemory>
+    ensures code { OnOk result (out.new ≡ out.old ++ spilled (layout_in places) s.now) }
     ensures words { OnOk result (throughout words_fit s.now ≡ true) }
 {
     match s {
         Stmt::Lit(x, n) => {
-            lit(names, *x, *n, out)?;
+            lit(places, *x, *n, out)?;
         }
         Stmt::Copy(x, y) => {
-            copy(place_of(names, *x), place_of(names, *y), out)?;
+            copy(place_of(places, *x), place_of(places, *y), out)?;
         }
         Stmt::Op(x, op, y, z) => {
-            operation(names, *x, *op, *y, *z, out)?;
+            operation(places, *x, *op, *y, *z, out)?;
         }
         Stmt::Load(x, size, y, offset) => {
-            load(names, *x, *size, *y, *offset, out)?;
+            load(places, *x, *size, *y, *offset, out)?;
         }
         Stmt::Store(size, y, z, offset) => {
-            store(names, *size, *y, *z, *offset, out)?;
+            store(places, *size, *y, *z, *offset, out)?;
         }
         Stmt::Table(x, size, bytes, y) => {
-            table(alloc, names, *x, *size, bytes.as_slice(), *y, out)?;
+            table(alloc, places, *x, *size, bytes.as_slice(), *y, out)?;
         }
         Stmt::Stackalloc(x, n, body) => {
-            let to = place_of(names, *x);
+            let to = place_of(places, *x);
             let mut inner = Items::new(alloc);
             keep(to, &mut inner)?;
-            statements(alloc, names, body.as_slice(), &mut inner)?;
+            statements(alloc, places, body.as_slice(), &mut inner)?;
             out.push(Stmt::Stackalloc(at(to, SPARE), *n, inner))?;
         }
         Stmt::If(test, first, second) => {
-            bring_test(names, *test, out)?;
+            bring_test(places, *test, out)?;
             let mut taken = Items::new(alloc);
-            statements(alloc, names, first.as_slice(), &mut taken)?;
+            statements(alloc, places, first.as_slice(), &mut taken)?;
             let mut other = Items::new(alloc);
-            statements(alloc, names, second.as_slice(), &mut other)?;
-            out.push(Stmt::If(test_at(names, *test), taken, other))?;
+            statements(alloc, places, second.as_slice(), &mut other)?;
+            out.push(Stmt::If(test_at(places, *test), taken, other))?;
         }
         Stmt::Loop(first, test, last) => {
             let mut opening = Items::new(alloc);
-            statements(alloc, names, first.as_slice(), &mut opening)?;
-            bring_test(names, *test, &mut opening)?;
+            statements(alloc, places, first.as_slice(), &mut opening)?;
+            bring_test(places, *test, &mut opening)?;
             let mut turn = Items::new(alloc);
-            statements(alloc, names, last.as_slice(), &mut turn)?;
-            out.push(Stmt::Loop(opening, test_at(names, *test), turn))?;
+            statements(alloc, places, last.as_slice(), &mut turn)?;
+            out.push(Stmt::Loop(opening, test_at(places, *test), turn))?;
         }
         Stmt::Call(xs, g, ys) => {
-            call(alloc, names, xs.as_slice(), *g, ys.as_slice(), out)?;
+            call(alloc, places, xs.as_slice(), *g, ys.as_slice(), out)?;
         }
         Stmt::Read(x, y) => {
-            read(names, *x, *y, out)?;
+            read(places, *x, *y, out)?;
         }
         Stmt::Write(y, z) => {
-            write(names, *y, *z, out)?;
+            write(places, *y, *z, out)?;
         }
     }
     Ok(())
@@ -95,45 +96,45 @@ fn statement(alloc: Global, names: u32, s: &Stmt, out: &mut Items<Stmt>) -> Resu
 
 // ---- operands and tests
 
-fn bring_operand(names: u32, z: Operand, out: &mut Items<Stmt>) -> Result<(), NoMemory>
-    ensures { OnOk result (out.new ≡ out.old ++ bring_operand (layout_of names) z) }
+fn bring_operand(places: Places, z: Operand, out: &mut Items<Stmt>) -> Result<(), NoMemory>
+    ensures { OnOk result (out.new ≡ out.old ++ bring_operand (layout_in places) z) }
 {
     match z {
-        Operand::Name(y) => bring(place_of(names, y), OTHER_SPARE, out),
+        Operand::Name(y) => bring(place_of(places, y), OTHER_SPARE, out),
         Operand::Const(_) => Ok(()),
     }
 }
 
-fn operand_at(names: u32, z: Operand) -> Operand
-    ensures { result ≡ operand_at (layout_of names) z }
+fn operand_at(places: Places, z: Operand) -> Operand
+    ensures { result ≡ operand_at (layout_in places) z }
 {
     match z {
-        Operand::Name(y) => Operand::Name(at(place_of(names, y), OTHER_SPARE)),
+        Operand::Name(y) => Operand::Name(at(place_of(places, y), OTHER_SPARE)),
         Operand::Const(c) => Operand::Const(c),
     }
 }
 
-fn bring_test(names: u32, test: Cond, out: &mut Items<Stmt>) -> Result<(), NoMemory>
-    ensures { OnOk result (out.new ≡ out.old ++ bring_test (layout_of names) test) }
+fn bring_test(places: Places, test: Cond, out: &mut Items<Stmt>) -> Result<(), NoMemory>
+    ensures { OnOk result (out.new ≡ out.old ++ bring_test (layout_in places) test) }
 {
     match test {
-        Cond::NonZero(y) => bring(place_of(names, y), SPARE, out),
+        Cond::NonZero(y) => bring(place_of(places, y), SPARE, out),
         Cond::Compare(_, y, z) => {
-            bring(place_of(names, y), SPARE, out)?;
-            bring(place_of(names, z), OTHER_SPARE, out)
+            bring(place_of(places, y), SPARE, out)?;
+            bring(place_of(places, z), OTHER_SPARE, out)
         }
     }
 }
 
-fn test_at(names: u32, test: Cond) -> Cond
-    ensures { result ≡ test_at (layout_of names) test }
+fn test_at(places: Places, test: Cond) -> Cond
+    ensures { result ≡ test_at (layout_in places) test }
 {
     match test {
-        Cond::NonZero(y) => Cond::NonZero(at(place_of(names, y), SPARE)),
+        Cond::NonZero(y) => Cond::NonZero(at(place_of(places, y), SPARE)),
         Cond::Compare(rel, y, z) => Cond::Compare(
             rel,
-            at(place_of(names, y), SPARE),
-            at(place_of(names, z), OTHER_SPARE),
+            at(place_of(places, y), SPARE),
+            at(place_of(places, z), OTHER_SPARE),
         ),
     }
 }
@@ -164,46 +165,46 @@ fn after_two(first: Place, second: Place, s: Stmt, out: &mut Items<Stmt>) -> Res
 }
 
 #[tactic(auto, using(crate::proofs::Codes::codes))]
-fn lit(names: u32, x: u32, n: u32, out: &mut Items<Stmt>) -> Result<(), NoMemory>
-    ensures { OnOk result (out.new ≡ out.old ++ spilled (layout_of names) (Lit x n)) }
+fn lit(places: Places, x: u32, n: u32, out: &mut Items<Stmt>) -> Result<(), NoMemory>
+    ensures { OnOk result (out.new ≡ out.old ++ spilled (layout_in places) (Lit x n)) }
 {
-    let to = place_of(names, x);
+    let to = place_of(places, x);
     out.push(Stmt::Lit(at(to, SPARE), n))?;
     keep(to, out)
 }
 
 #[tactic(auto, using(crate::proofs::Codes::codes))]
 fn operation(
-    names: u32,
+    places: Places,
     x: u32,
     op: BinOp,
     y: u32,
     z: Operand,
     out: &mut Items<Stmt>,
 ) -> Result<(), NoMemory>
-    ensures { OnOk result (out.new ≡ out.old ++ spilled (layout_of names) (Op x op y z)) }
+    ensures { OnOk result (out.new ≡ out.old ++ spilled (layout_in places) (Op x op y z)) }
 {
-    let to = place_of(names, x);
-    let from = place_of(names, y);
+    let to = place_of(places, x);
+    let from = place_of(places, y);
     bring(from, SPARE, out)?;
-    bring_operand(names, z, out)?;
-    out.push(Stmt::Op(at(to, SPARE), op, at(from, SPARE), operand_at(names, z)))?;
+    bring_operand(places, z, out)?;
+    out.push(Stmt::Op(at(to, SPARE), op, at(from, SPARE), operand_at(places, z)))?;
     keep(to, out)
 }
 
 #[tactic(auto, using(crate::proofs::Codes::codes))]
 fn load(
-    names: u32,
+    places: Places,
     x: u32,
     size: Size,
     y: u32,
     offset: i32,
     out: &mut Items<Stmt>,
 ) -> Result<(), NoMemory>
-    ensures { OnOk result (out.new ≡ out.old ++ spilled (layout_of names) (Load x size y offset)) }
+    ensures { OnOk result (out.new ≡ out.old ++ spilled (layout_in places) (Load x size y offset)) }
 {
-    let to = place_of(names, x);
-    let from = place_of(names, y);
+    let to = place_of(places, x);
+    let from = place_of(places, y);
     around(
         from,
         Stmt::Load(at(to, SPARE), size, at(from, SPARE), offset),
@@ -214,17 +215,18 @@ fn load(
 
 #[tactic(auto, using(crate::proofs::Codes::codes))]
 fn store(
-    names: u32,
+    places: Places,
     size: Size,
     y: u32,
     z: u32,
     offset: i32,
     out: &mut Items<Stmt>,
 ) -> Result<(), NoMemory>
-    ensures { OnOk result (out.new ≡ out.old ++ spilled (layout_of names) (Store size y z offset)) }
+    ensures { OnOk result
+        (out.new ≡ out.old ++ spilled (layout_in places) (Store size y z offset)) }
 {
-    let address = place_of(names, y);
-    let value = place_of(names, z);
+    let address = place_of(places, y);
+    let value = place_of(places, z);
     let s = Stmt::Store(size, at(address, SPARE), at(value, OTHER_SPARE), offset);
     after_two(address, value, s, out)
 }
@@ -232,19 +234,20 @@ fn store(
 #[tactic(auto, using(crate::proofs::Codes::codes))]
 fn table(
     alloc: Global,
-    names: u32,
+    places: Places,
     x: u32,
     size: Size,
     bytes: &[u8],
     y: u32,
     out: &mut Items<Stmt>,
 ) -> Result<(), NoMemory>
-    ensures code { OnOk result (out.new ≡ out.old ++ spilled (layout_of names) (Table x size bytes.now y)) }
+    ensures code { OnOk result
+        (out.new ≡ out.old ++ spilled (layout_in places) (Table x size bytes.now y)) }
     ensures words { list_all (λ b. nat_lt b 256) bytes.now ≡ true }
 {
     are_bytes(bytes);
-    let to = place_of(names, x);
-    let from = place_of(names, y);
+    let to = place_of(places, x);
+    let from = place_of(places, y);
     let bytes = Items::from_slice(alloc, bytes)?;
     around(
         from,
@@ -264,36 +267,36 @@ fn are_bytes(bytes: &[u8])
 #[tactic(auto, using(crate::proofs::Codes::codes))]
 fn call(
     alloc: Global,
-    names: u32,
+    places: Places,
     xs: &[u32],
     g: u32,
     ys: &[u32],
     out: &mut Items<Stmt>,
 ) -> Result<(), NoMemory>
-    ensures { OnOk result (out.new ≡ out.old ++ spilled (layout_of names) (Call xs.now g ys.now)) }
+    ensures { OnOk result (out.new ≡ out.old ++ spilled (layout_in places) (Call xs.now g ys.now)) }
 {
     let to = registers(alloc, xs.len())?;
     let from = registers(alloc, ys.len())?;
-    passes(names, ys, out)?;
+    passes(places, ys, out)?;
     out.push(Stmt::Call(to, g, from))?;
-    takes(names, xs, out)
+    takes(places, xs, out)
 }
 
 #[tactic(auto, using(crate::proofs::Codes::codes))]
-fn read(names: u32, x: u32, y: u32, out: &mut Items<Stmt>) -> Result<(), NoMemory>
-    ensures { OnOk result (out.new ≡ out.old ++ spilled (layout_of names) (Read x y)) }
+fn read(places: Places, x: u32, y: u32, out: &mut Items<Stmt>) -> Result<(), NoMemory>
+    ensures { OnOk result (out.new ≡ out.old ++ spilled (layout_in places) (Read x y)) }
 {
-    let to = place_of(names, x);
-    let from = place_of(names, y);
+    let to = place_of(places, x);
+    let from = place_of(places, y);
     around(from, Stmt::Read(at(to, SPARE), at(from, SPARE)), to, out)
 }
 
 #[tactic(auto, using(crate::proofs::Codes::codes))]
-fn write(names: u32, y: u32, z: u32, out: &mut Items<Stmt>) -> Result<(), NoMemory>
-    ensures { OnOk result (out.new ≡ out.old ++ spilled (layout_of names) (Write y z)) }
+fn write(places: Places, y: u32, z: u32, out: &mut Items<Stmt>) -> Result<(), NoMemory>
+    ensures { OnOk result (out.new ≡ out.old ++ spilled (layout_in places) (Write y z)) }
 {
-    let address = place_of(names, y);
-    let value = place_of(names, z);
+    let address = place_of(places, y);
+    let value = place_of(places, z);
     let s = Stmt::Write(at(address, SPARE), at(value, OTHER_SPARE));
     after_two(address, value, s, out)
 }

@@ -1,10 +1,10 @@
 // Words that are passed in registers.
 
 ghost use Rattle.std.specs.Prelude.{◌≡◌, ◌<◌, ◌≤◌, ◌++◌, length, map, IfOk, OnOk};
-ghost use Rattle.br_spill.specs.Spill.{in_order, layout_of, passes, takes};
+ghost use Rattle.br_spill.specs.Spill.{in_order, layout_in, passes, takes};
 
 use crate::moves::{pass, put};
-use crate::place::place_of;
+use crate::place::{Places, place_of};
 use br_base::NoMemory;
 use br_flatimp::Stmt;
 use sqlite_items::Items;
@@ -32,27 +32,27 @@ pub(crate) fn registers(alloc: Global, count: usize) -> Result<Items<u32>, NoMem
     Ok(xs)
 }
 
-/// Passes the words of names of a function with so many names.
-pub(crate) fn passes(names: u32, ys: &[u32], out: &mut Items<Stmt>) -> Result<(), NoMemory>
+/// Passes the words of names that have such places.
+pub(crate) fn passes(places: Places, ys: &[u32], out: &mut Items<Stmt>) -> Result<(), NoMemory>
     requires { length ys.now ≤ 8 }
-    ensures { OnOk result (out.new ≡ out.old ++ passes (map (layout_of names).place ys.now) 10) }
+    ensures { OnOk result (out.new ≡ out.old ++ passes (map (layout_in places).place ys.now) 10) }
 {
     let mut to = FIRST;
     for y in ys {
-        pass(place_of(names, *y), to, out)?;
+        pass(place_of(places, *y), to, out)?;
         to += 1;
     }
     Ok(())
 }
 
 /// Takes passed words to names.
-pub(crate) fn takes(names: u32, xs: &[u32], out: &mut Items<Stmt>) -> Result<(), NoMemory>
+pub(crate) fn takes(places: Places, xs: &[u32], out: &mut Items<Stmt>) -> Result<(), NoMemory>
     requires { length xs.now ≤ 8 }
-    ensures { OnOk result (out.new ≡ out.old ++ takes (map (layout_of names).place xs.now) 10) }
+    ensures { OnOk result (out.new ≡ out.old ++ takes (map (layout_in places).place xs.now) 10) }
 {
     let mut from = FIRST;
     for x in xs {
-        put(place_of(names, *x), from, out)?;
+        put(place_of(places, *x), from, out)?;
         from += 1;
     }
     Ok(())

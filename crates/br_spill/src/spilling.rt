@@ -1,25 +1,23 @@
-// Functions and programs in register form.
+// Functions and programs whose words are passed in registers.
 
 ghost use Rattle.std.specs.Prelude.{◌≡◌, ◌≤◌, true, IfOk, OnOk};
 ghost use Rattle.br_flatimp.specs.Refines.{Refines, meaning};
 ghost use Rattle.br_flatimp.specs.WellFormed.{IsRegisterForm, IsWellFormed};
-ghost use Rattle.br_spill.specs.Spill.{HasWords, StayLean, function_words_fit, in_buffer, layout_of, spilled_function, spilled_program};
+ghost use Rattle.br_spill.specs.Spill.{AreAsLean, HasWords, SpilledFunctions, StayLean, function_words_fit, in_buffer, layout_by, program_by, spilled_function, spilled_program, wide_program};
 
 use crate::bodies::statements;
 use crate::laws::{
-    layouts_fit, spilled_programs_are_in_register_form, spilled_programs_refine,
-    spilled_programs_stay_lean,
+    layouts_fit, spilled_programs_are_as_lean, spilled_programs_are_in_register_form,
+    spilled_programs_are_well_formed, spilled_programs_refine, spilled_programs_stay_lean,
+    wide_layouts_fit,
 };
 use crate::moves::BUFFER;
 use crate::passing::{passes, registers, takes};
-use crate::place::slots;
+use crate::place::{Kind, Places, register_count, slots};
 use br_base::NoMemory;
 use br_flatimp::{FlatFunc, FlatProgram, Stmt};
 use sqlite_items::Items;
 use std::alloc::Global;
-
-// A function in register form has the names 0 to 31.
-const REGISTERS: u32 = 32;
 
 /// The program in register form of a well formed flat program. A function of at most 21 names keeps
 /// them in registers; of more, the first 18 names have registers, and the others words of a buffer
@@ -36,39 +34,69 @@ pub fn spill(alloc: Global, p: FlatProgram) -> Result<FlatProgram, NoMemory>
     spilled_programs_refine();
     spilled_programs_are_in_register_form();
     spilled_programs_stay_lean();
-    let funcs = functions(alloc, p.funcs.as_slice())?;
+    let funcs = functions(alloc, Kind::Narrow, p.funcs.as_slice())?;
     Ok(FlatProgram { funcs })
 }
 
-/// The functions in register form of functions, well formed or not.
-pub(crate) fn functions(alloc: Global, fs: &[FlatFunc]) -> Result<Items<FlatFunc>, NoMemory>
-    ensures program { IfOk result (λ qs. qs ≡ spilled_program fs.now) }
+/// A well formed flat program, with words passed in registers: the name numbered x becomes 32 + x,
+/// 10 to 17 pass words and hold no name, and no other register below 32 is used. A function of more
+/// than 1,048,544 names is as `spill` makes it. Each function comes from the one at its place by a
+/// layout that fits. One that has no more buffers than that one misses no operand where that one
+/// misses none, and has no dead statement but copies where that one has no dead one. Answers want
+/// of memory alone.
+pub fn pass_in_registers(alloc: Global, p: &FlatProgram) -> Result<FlatProgram, NoMemory>
+    requires { IsWellFormed p.now.funcs }
+    ensures program { IfOk result (λ q. q.funcs ≡ wide_program p.now.funcs) }
+    ensures spilled { IfOk result (λ q. SpilledFunctions q.funcs p.now.funcs) }
+    ensures well_formed { IfOk result (λ q. IsWellFormed q.funcs) }
+    ensures refines { IfOk result (λ q. Refines (meaning q.funcs) (meaning p.now.funcs)) }
+    ensures lean { IfOk result (λ q. AreAsLean q.funcs p.now.funcs) }
+{
+    wide_layouts_fit();
+    spilled_programs_refine();
+    spilled_programs_are_well_formed();
+    spilled_programs_are_as_lean();
+    let funcs = functions(alloc, Kind::Wide, p.funcs.as_slice())?;
+    Ok(FlatProgram { funcs })
+}
+
+/// The functions of functions by layouts of a kind, well formed or not.
+pub(crate) fn functions(
+    alloc: Global,
+    kind: Kind,
+    fs: &[FlatFunc],
+) -> Result<Items<FlatFunc>, NoMemory>
+    ensures program { IfOk result (λ qs. qs ≡ program_by kind fs.now) }
     ensures words { OnOk result (HasWords fs.now) }
 {
     let mut made = Items::new(alloc);
     for f in fs {
-        made.push(function(alloc, f)?)?;
+        made.push(function(alloc, kind, f)?)?;
     }
     Ok(made)
 }
 
-// The function in register form of a function.
-fn function(alloc: Global, f: &FlatFunc) -> Result<FlatFunc, NoMemory>
-    ensures same { IfOk result (λ q. q ≡ spilled_function (layout_of f.now.names) f.now) }
+// The function of a function by the layout of a kind.
+fn function(alloc: Global, kind: Kind, f: &FlatFunc) -> Result<FlatFunc, NoMemory>
+    ensures same { IfOk result (λ q. q ≡ spilled_function (layout_by kind f.now.names) f.now) }
     ensures words { OnOk result (function_words_fit f.now ≡ true) }
 {
+    let places = Places {
+        kind,
+        names: f.names,
+    };
     let args = registers(alloc, f.args.len())?;
     let results = registers(alloc, f.results.len())?;
     let mut body = Items::new(alloc);
-    takes(f.names, f.args.as_slice(), &mut body)?;
-    statements(alloc, f.names, f.body.as_slice(), &mut body)?;
-    passes(f.names, f.results.as_slice(), &mut body)?;
+    takes(places, f.args.as_slice(), &mut body)?;
+    statements(alloc, places, f.body.as_slice(), &mut body)?;
+    passes(places, f.results.as_slice(), &mut body)?;
     Ok(FlatFunc {
         name: f.name.copy()?,
         args,
         results,
-        names: REGISTERS,
-        body: in_buffer(alloc, slots(f.names), body)?,
+        names: register_count(places),
+        body: in_buffer(alloc, slots(places), body)?,
     })
 }
 

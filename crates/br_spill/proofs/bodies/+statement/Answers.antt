@@ -1,10 +1,10 @@
-use Rattle.br_spill.specs.Spill.{layout_of}
+use Rattle.br_spill.specs.Spill.{layout_in}
 use Rattle.br_spill.proofs.Codes.{from_none, if-made}
 use Rattle.br_spill.proofs.bodies.+statement.Goals as goal
 
 pub statement-returns-in_ok-push-in-If-clause-code : goal.statement-returns-in_ok-push-in-If-clause-code
 statement-returns-in_ok-push-in-If-clause-code t c =
-    let l = layout_of c.args.names in
+    let l = layout_in c.args.places in
     if-made l c.args.s.now c.in-If.test c.test_at.result c.in-If.first c.in-If.second c.args.out.now c.bring_test.new.out c.push-in-If.new.self c.statements-in-If.new.out c.statements-in-If-2.new.out
     c.in-If.is c.in_ok-bring_test-in-If.ensures c.test_at.ensures
     (from_none l c.new-taken.result c.statements-in-If.new.out c.as_slice-in-If.result.now c.in-If.first c.new-taken.ensures c.as_slice-in-If.ensures c.in_ok-statements-in-If.ensures.code)

@@ -1,5 +1,6 @@
-use Rattle.std.proofs.Common.{◌≡◌, sym, ap, subst, ◌∙◌}
-use Rattle.br_spill.specs.Spill.{HasWords, SpilledFunctions, StayLean, spilled_program}
+use Rattle.std.proofs.Common.{◌≡◌, sym, ap, subst, ◌∙◌, IsTrue}
+use Rattle.std.specs.List.{list_all}
+use Rattle.br_spill.specs.Spill.{HasWords, SpilledFunctions, StayLean, is_narrow, spilled_program}
 use Rattle.br_spill.proofs.spilling.spill.Goals as goal
 
 pub returns : goal.returns
@@ -11,7 +12,7 @@ returns c =
     let each : SpilledFunctions qs ps = subst (λ rs. SpilledFunctions rs ps) (sym same) (c.layouts_fit.ensures.program ps c.requires) in
     record {
       program = same;
-      form = c.spilled_programs_are_in_register_form.ensures qs ps c.requires each;
+      form = c.spilled_programs_are_in_register_form.ensures qs ps c.requires each (subst (λ rs. IsTrue (list_all is_narrow rs)) (sym same) (c.layouts_fit.ensures.narrow ps));
       refines = c.spilled_programs_refine.ensures qs ps c.requires words each;
       lean = subst (λ rs. StayLean rs ps) (sym same) (c.spilled_programs_stay_lean.ensures ps c.requires);
     }
