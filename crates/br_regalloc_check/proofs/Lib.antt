@@ -3,10 +3,12 @@ pub mod Below
 pub mod Bounded
 pub mod Checked
 pub mod Counting
+pub mod Dead
 pub mod Exact
 pub mod Formed
 pub mod Forms
 pub mod Lists
+pub mod Missed
 pub mod Programs
 pub mod Renames
 pub mod Stands

@@ -70,6 +70,19 @@ in_map to (y ∷ ys) x h = elim (or_cases (y == x) (is_in ys x) h) [
   | inr e ↦ or_right (to y == to x) (is_in (map to ys) (to x)) (in_map to ys x e)
 ]
 
+-- a new name is that of no name in a list where the name is not there and each that gets its new name is the name
+pub not-in-map : (to : ℕ → ℕ) (xs : List ℕ) (x : ℕ) → ((w : ℕ) → IsTrue (is_in xs w) → to x ≡ to w → x ≡ w) → is_in xs x ≡ false → is_in (map to xs) (to x) ≡ false
+not-in-map to [] x apart h = refl
+not-in-map to (y ∷ ys) x apart h = by (y == x) (to y == to x) refl refl (not-in-map to ys x (λ w i. apart w (or_right (y == w) (is_in ys w) i))) h
+  where
+    by : (a b : Bool) → (y == x) ≡ a → (to y == to x) ≡ b → (is_in ys x ≡ false → is_in (map to ys) (to x) ≡ false) → (a || is_in ys x) ≡ false
+        → (b || is_in (map to ys) (to x)) ≡ false
+    by true b e f rest k = absurd (cc k)
+    by false true e f rest k =
+        let same : x ≡ y = apart y (in_head y ys) (sym (eq_true (to y) (to x) f)) in
+        absurd (cc (e, subst (λ z. IsTrue (y == z)) (sym same) (eq_self y)))
+    by false false e f rest k = rest k
+
 -- a fact on each of the names in a list
 pub each-in : (P : ℕ → Type 0) (xs : List ℕ) → AllByRecursion P xs → (x : ℕ) → IsTrue (is_in xs x) → P x
 each-in P [] h x i = absurd (cc i)

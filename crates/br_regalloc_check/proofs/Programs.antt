@@ -12,12 +12,14 @@ use Rattle.br_flatimp.specs.declared.program.Stmt.TheOpen.{Stmt-F}
 use Rattle.br_flatimp.specs.Parts.{throughout}
 use Rattle.br_flatimp.specs.Sizes.{Kept, KeptFunction, function_count}
 use Rattle.br_flatimp.specs.WellFormed.{all_differ, are_below, fits, is_well_formed_statement, is_well_formed_head, is_well_formed_function, names_differ, IsWellFormed}
-use Rattle.br_regalloc_check.specs.Assigned.{AreAssigned, IsAssigned}
+use Rattle.br_regalloc_check.specs.Assigned.{AreAssigned, IsAssigned, KeepLean, KeepsLean}
 use Rattle.br_regalloc_check.specs.Walks.{IsFit}
 use Rattle.br_regalloc_check.proofs.Checked.{names-below}
+use Rattle.br_regalloc_check.proofs.Dead.{none-dead}
 use Rattle.br_regalloc_check.proofs.Formed.{SameCounts, function-fine, function-named, true-le}
 use Rattle.br_regalloc_check.proofs.Lists.{and_both, both_and}
-use Rattle.br_regalloc_check.proofs.Renames.{kept-renamed, kept-same}
+use Rattle.br_regalloc_check.proofs.Missed.{none-missed}
+use Rattle.br_regalloc_check.proofs.Renames.{bulk-renamed, kept-renamed, kept-same}
 
 pub fit-all : (gs fs : List FlatFunc) → IsTrue (list_all (is_well_formed_function gs) fs) → AllByRecursion (λ f. function_count f < 2 ^ 32) fs → AllByRecursion IsFit fs
 fit-all gs [] h k = tt
@@ -129,3 +131,19 @@ all-kept is [] [] (p ∷ ps) h k = absurd h
 all-kept is [] (f ∷ fs) ps h k = absurd h
 all-kept is (q ∷ qs) [] ps h k = absurd h
 all-kept is (q ∷ qs) (f ∷ fs) [] h k = absurd h
+
+-- ---- operands and dead statements
+
+one-lean : (q f : FlatFunc) (p : Proposal) → IsAssigned q f p → KeepsLean q f
+one-lean q f p (inl h) =
+    let to = slice_index p.to in
+    subst (λ g. KeepsLean g f) (sym h.1) (record { none_missed = none-missed to f h.0.written; none_dead = none-dead to f h.0.written; bulk = bulk-renamed to f })
+one-lean q f p (inr h) = subst (λ g. KeepsLean g f) (sym h.1) (record { none_missed = λ k. k; none_dead = λ k. k; bulk = refl })
+
+pub all-lean : (qs fs : List FlatFunc) (ps : List Proposal) → AreAssigned qs fs ps → KeepLean qs fs
+all-lean [] [] [] h = tt
+all-lean (q ∷ qs) (f ∷ fs) (p ∷ ps) h = (one-lean q f p h.0, all-lean qs fs ps h.1)
+all-lean [] [] (p ∷ ps) h = absurd h
+all-lean [] (f ∷ fs) ps h = absurd h
+all-lean (q ∷ qs) [] ps h = absurd h
+all-lean (q ∷ qs) (f ∷ fs) [] h = absurd h

@@ -12,7 +12,7 @@ use Rattle.br_flatimp.specs.declared.program.Stmt.TheOpen.{Stmt-F}
 use Rattle.br_flatimp.specs.declared.program.Stmt.TheViews.{roll-Stmt}
 use Rattle.br_flatimp.specs.declared.program.Stmt.TheFolds.{fold-Stmt, fold-roll-Stmt, ind-Stmt}
 use Rattle.br_flatimp.specs.Parts.{written, read, parts, function_names, statement_names, gathered, own_callees}
-use Rattle.br_flatimp.specs.Sizes.{own_units, units, largest, own_bytes, nest, KeptFunction}
+use Rattle.br_flatimp.specs.Sizes.{own_units, units, largest, own_bytes, nest, own_words, function_bulk, KeptFunction}
 use Rattle.br_flatimp.specs.Renaming.{renamed, renamed_step}
 use Rattle.br_flatimp.specs.WellFormed.{are_below}
 use Rattle.br_regalloc_check.specs.Assigned.{names_for, function_renamed}
@@ -217,6 +217,26 @@ units-aside to (Stmt-F.Loop first test last) = refl
 units-aside to (Stmt-F.Call xs g ys) = ap (λ n. 1 + n + length (map to ys) + 0) (length-map xs to) ∙ ap (λ n. 1 + length xs + n + 0) (length-map ys to)
 units-aside to (Stmt-F.Read x y) = refl
 units-aside to (Stmt-F.Write y z) = refl
+
+abbrev bulk_step : Stmt-F ℕ → ℕ
+bulk_step y = own_words y + sum (map sum (parts y))
+
+bulk-aside : LooksAside bulk_step
+bulk-aside to (Stmt-F.Lit x n) = refl
+bulk-aside to (Stmt-F.Copy x y) = refl
+bulk-aside to (Stmt-F.Op x op y z) = refl
+bulk-aside to (Stmt-F.Load x size y offset) = refl
+bulk-aside to (Stmt-F.Store size y z offset) = refl
+bulk-aside to (Stmt-F.Table x size bytes y) = refl
+bulk-aside to (Stmt-F.Stackalloc x n body) = refl
+bulk-aside to (Stmt-F.If test first second) = refl
+bulk-aside to (Stmt-F.Loop first test last) = refl
+bulk-aside to (Stmt-F.Call xs g ys) = refl
+bulk-aside to (Stmt-F.Read x y) = refl
+bulk-aside to (Stmt-F.Write y z) = refl
+
+pub bulk-renamed : (to : ℕ → ℕ) (f : FlatFunc) → function_bulk (function_renamed to f) ≡ function_bulk f
+bulk-renamed to f = ap (λ ns. 96 + sum ns) (folds-stay bulk_step bulk-aside to f.body)
 
 abbrev nest_step : Stmt-F ℕ → ℕ
 nest_step y = own_bytes y + largest (map largest (parts y))

@@ -11,14 +11,15 @@ use Rattle.br_flatimp.specs.Renaming.{IsApart}
 abbrev pub AreApart : (ℕ → ℕ) → Names → Type 0
 AreApart to live = (x : ℕ) → IsTrue (live x) → IsApart to x live
 
--- What a statement needs: the names that it writes get new names that differ, and the new name of each
--- is that of no other name that is live after the write.
+-- What a statement needs: the names that it writes get new names that differ, and the new name of
+-- each is that of no other name that is live after the write.
 pub record MayRename (to : ℕ → ℕ) (m : Moment) : Type 0 where
   pub differ : IsTrue (all_differ (map to m.written))
   pub apart : (x : ℕ) → IsTrue (is_in m.written x) → IsApart to x m.after_write
 
--- A function may take these new names: there is one for each of its names, each below their count. Two
--- names that are live at one point get different ones, and so do two arguments, and two results.
+-- A function may take these new names: there is one for each of its names, each below their count.
+-- Two names that are live at one point get different ones, and so do two arguments, and two
+-- results.
 pub record IsAccepted (f : FlatFunc) (to : List ℕ) : Type 0 where
   pub count : length to ≡ f.names
   pub below : IsTrue (are_below f.names to)

@@ -1,10 +1,12 @@
 -- Programs whose functions have taken new names.
-use Rattle.std.specs.Prelude.{◌≡◌, ℕ, suc, List, [], ◌∷◌, map, slice_index, ◌⊎◌}
+use Rattle.std.specs.Prelude.{◌≡◌, ℕ, suc, List, [], ◌∷◌, map, slice_index, ◌⊎◌, IsTrue}
 use Rattle.br_flatimp.specs.declared.program.FlatFunc.{FlatFunc}
 use Rattle.br_flatimp.specs.declared.program.Proposal.{Proposal}
+use Rattle.br_flatimp.specs.Liveness.{has_no_dead}
+use Rattle.br_flatimp.specs.Missed.{has_no_missed}
 use Rattle.br_flatimp.specs.Parts.{function_names}
 use Rattle.br_flatimp.specs.Renaming.{renamed}
-use Rattle.br_flatimp.specs.Sizes.{largest}
+use Rattle.br_flatimp.specs.Sizes.{largest, function_bulk}
 use Rattle.br_regalloc_check.specs.Accepted.{IsAccepted}
 
 -- one more than the largest of names, or 0 where there is none
@@ -37,3 +39,19 @@ AreAssigned [] [] (p ∷ ps) = ⊥
 AreAssigned [] (f ∷ fs) ps = ⊥
 AreAssigned (q ∷ qs) [] ps = ⊥
 AreAssigned (q ∷ qs) (f ∷ fs) [] = ⊥
+
+-- ---- operands and dead statements
+
+-- A function with new names beside the one that it comes from: it misses no operand if that one
+-- misses none, has no dead statement if that one has none, and its bulk is the same.
+pub record KeepsLean (q f : FlatFunc) : Type 0 where
+  pub none_missed : IsTrue (has_no_missed f) → IsTrue (has_no_missed q)
+  pub none_dead : IsTrue (has_no_dead f) → IsTrue (has_no_dead q)
+  pub bulk : function_bulk q ≡ function_bulk f
+
+-- each function beside the one that it comes from
+abbrev pub KeepLean : List FlatFunc → List FlatFunc → Type 0
+KeepLean [] [] = Unit {0}
+KeepLean (q ∷ qs) (f ∷ fs) = KeepsLean q f × KeepLean qs fs
+KeepLean [] (f ∷ fs) = ⊥
+KeepLean (q ∷ qs) [] = ⊥

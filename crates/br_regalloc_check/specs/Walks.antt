@@ -1,5 +1,6 @@
 -- Sets of names below a bound, and rows of a table that belong to statements.
-use Rattle.std.specs.Prelude.{◌≡◌, ℕ, Bool, suc, max, ◌<◌, ◌≤◌, ◌^◌, List, [], ◌∷◌, ◌++◌, map, drop, IsTrue}
+use Rattle.std.specs.Prelude.{◌≡◌, ℕ, Bool, suc, max, ◌<◌, ◌≤◌, ◌^◌, IsTrue}
+use Rattle.std.specs.Prelude.{List, [], ◌∷◌, ◌++◌, map, drop}
 use Rattle.std.specs.List.{AllByRecursion}
 use Rattle.br_flatimp.specs.declared.program.FlatFunc.{FlatFunc}
 use Rattle.br_flatimp.specs.declared.program.Stmt.{Stmt}
@@ -35,8 +36,8 @@ HaveName x = AllByRecursion (λ (r : Row). x < r.bound)
 abbrev pub StandsAt : List Row → ℕ → ℕ → List Moment → Type 0
 StandsAt rows at names ms = (rest : List Row) × (drop at rows ≡ rows_after names ms ++ rest)
 
--- Whether a name is live before statements, when it is known what is live after them; where there is no
--- statement, what is given.
+-- Whether a name is live before statements, when it is known what is live after them; where there
+-- is no statement, what is given.
 abbrev pub start_of : List Stmt → Bool → Names → ℕ → Bool
 start_of [] none end x = none
 start_of (s ∷ rest) none end x = before_all (s ∷ rest) end x

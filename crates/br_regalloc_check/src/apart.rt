@@ -1,6 +1,7 @@
 // Which names get different new names.
 
-ghost use Rattle.std.specs.Prelude.{◌≡◌, ◌<◌, ◌^◌, ◌==◌, ◌&&◌, ◌↔◌, IsTrue, length, map, slice_index};
+ghost use Rattle.std.specs.Prelude.{◌≡◌, ℕ, ◌+◌, ◌/◌, ◌<◌, ◌^◌, ◌==◌, ◌&&◌, ◌↔◌, false, IsTrue};
+ghost use Rattle.std.specs.Prelude.{length, map, slice_index};
 ghost use Rattle.std.specs.List.{AllByRecursion, list_any};
 ghost use Rattle.br_flatimp.specs.WellFormed.{all_differ, are_below};
 ghost use Rattle.br_live.specs.BitSets.{set_of};
@@ -74,9 +75,37 @@ pub(crate) fn is_apart(to: &[u32], x: u32, live: &BitSet) -> bool
     requires bound { live.now.bound ≡ length to.now }
     requires few { length to.now < 2 ^ 32 }
     requires name { x < length to.now }
-    ensures { IsTrue result ↔ IsApartBelow (length to.now) (slice_index to.now) x (set_of live.now) }
+    ensures { IsTrue result ↔
+        IsApartBelow (length to.now) (slice_index to.now) x (set_of live.now) }
 {
-    for z in 0..to.len() {
+    for k in 0..live.words().len() {
+        if !is_absent(k, live) && !is_apart_in_word(to, x, k, live) {
+            return false;
+        }
+    }
+    true
+}
+
+// Whether a word of a set has none of its 32 numbers.
+fn is_absent(k: usize, live: &BitSet) -> bool
+    requires { k < (live.now.bound + 31) / 32 }
+    ensures { IsTrue result → (z : ℕ) → z < live.now.bound → z / 32 ≡ k →
+        set_of live.now z ≡ false }
+{
+    live.words()[k] == 0
+}
+
+// Whether the new name of a name is that of no other of the 32 names in a word of a set.
+fn is_apart_in_word(to: &[u32], x: u32, k: usize, live: &BitSet) -> bool
+    requires bound { live.now.bound ≡ length to.now }
+    requires few { length to.now < 2 ^ 32 }
+    requires name { x < length to.now }
+    requires word { k < (length to.now + 31) / 32 }
+    ensures { IsTrue result ↔ ((z : ℕ) → z < length to.now → z / 32 ≡ k →
+        IsTrue (set_of live.now z) → slice_index to.now z ≡ slice_index to.now x → z ≡ x) }
+{
+    let start = 32 * k;
+    for z in start..to.len().min(start + 32) {
         if to[z] == to[x as usize] && z != x as usize && live.contains(z as u32) {
             return false;
         }

@@ -6,7 +6,8 @@ ghost use Rattle.br_flatimp.specs.Refines.{Refines, meaning};
 ghost use Rattle.br_flatimp.specs.Sizes.{Kept, function_count};
 ghost use Rattle.br_flatimp.specs.WellFormed.{IsWellFormed};
 ghost use Rattle.br_regalloc_check.specs.Accepted.{IsAccepted};
-ghost use Rattle.br_regalloc_check.specs.Assigned.{AreAssigned, IsAssigned, function_renamed};
+ghost use Rattle.br_regalloc_check.specs.Assigned.{AreAssigned, IsAssigned, KeepLean};
+ghost use Rattle.br_regalloc_check.specs.Assigned.{function_renamed};
 ghost use Rattle.br_regalloc_check.specs.Walks.{IsFit};
 
 use crate::checker::accepts;
@@ -18,10 +19,12 @@ use br_live::live_after;
 use sqlite_items::Items;
 use std::alloc::Global;
 
-/// A program whose functions take the new names that are proposed, each where it may; a function that
-/// may not stays as it is. There is a proposal for each function, in their order. The count of names
-/// of a function that takes new names is one more than the largest that stands in it, or 0. The
-/// program means the same, and its sizes and callees stay. Answers want of memory alone.
+/// A program whose functions take the new names that are proposed, each where it may; a function
+/// that may not stays as it is. There is a proposal for each function, in their order. The count of
+/// names of a function that takes new names is one more than the largest that stands in it, or 0.
+/// The program means the same, and its sizes and callees stay. A function misses no operand where
+/// the one that it comes from misses none, and has no dead statement where that one has none.
+/// Answers want of memory alone.
 pub fn assign(
     alloc: Global,
     p: FlatProgram,
@@ -34,6 +37,7 @@ pub fn assign(
     ensures well_formed { IfOk result (λ q. IsWellFormed q.funcs) }
     ensures refines { IfOk result (λ q. Refines (meaning q.funcs) (meaning p.funcs)) }
     ensures kept { IfOk result (λ q. Kept q.funcs p.funcs) }
+    ensures lean { IfOk result (λ q. KeepLean q.funcs p.funcs) }
 {
     renamed_programs_refine();
     let mut funcs = functions(alloc, p.funcs, proposals)?;

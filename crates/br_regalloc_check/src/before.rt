@@ -1,12 +1,14 @@
 // Which names are live before statements, from the sets after them.
 
-ghost use Rattle.std.specs.Prelude.{◌≡◌, ◌&&◌, ◌||◌, not, ℕ, ◌+◌, ◌<◌, ◌≤◌, ◌^◌, IsTrue, ◌↔◌, length, map, slice_index, sum};
+ghost use Rattle.std.specs.Prelude.{◌≡◌, ◌&&◌, ◌||◌, not, ℕ, ◌+◌, ◌<◌, ◌≤◌, ◌^◌, IsTrue, ◌↔◌};
+ghost use Rattle.std.specs.Prelude.{length, map, slice_index, sum};
 ghost use Rattle.br_flatimp.specs.Liveness.{before, is_in, live, moments};
 ghost use Rattle.br_flatimp.specs.Parts.{operand_names, test_names};
 ghost use Rattle.br_flatimp.specs.Sizes.{statement_count};
 ghost use Rattle.br_flatimp.specs.Values.{Names};
 ghost use Rattle.br_live.specs.Tables.{rows};
-ghost use Rattle.br_regalloc_check.specs.Walks.{HaveBound, HaveName, IsApartBelow, StandsAt, start_of};
+ghost use Rattle.br_regalloc_check.specs.Walks.{HaveBound, HaveName, IsApartBelow, StandsAt};
+ghost use Rattle.br_regalloc_check.specs.Walks.{start_of};
 
 use crate::count::count_all;
 use br_flatimp::{Cond, Operand, Stmt, loops_take_one_turn};
@@ -20,7 +22,8 @@ pub(crate) fn is_apart_before(table: &LiveTable, to: &[u32], x: u32, s: &Stmt, a
     requires names { length to.now < 2 ^ 32 }
     requires count { length (rows table.now) < 2 ^ 32 }
     requires room { at + statement_count s.now ≤ length (rows table.now) }
-    ensures { (names : ℕ) (after : Names) → StandsAt (rows table.now) at names ((live s.now).moments after) →
+    ensures { (names : ℕ) (after : Names) →
+        StandsAt (rows table.now) at names ((live s.now).moments after) →
         (IsTrue result ↔ IsApartBelow (length to.now) (slice_index to.now) x (before s.now after)) }
 {
     for z in 0..to.len() {
@@ -37,7 +40,8 @@ pub(crate) fn is_live_before(table: &LiveTable, s: &Stmt, at: u32, x: u32) -> bo
     requires name { HaveName x (rows table.now) }
     requires count { length (rows table.now) < 2 ^ 32 }
     requires room { at + statement_count s.now ≤ length (rows table.now) }
-    ensures { (names : ℕ) (after : Names) → StandsAt (rows table.now) at names ((live s.now).moments after) →
+    ensures { (names : ℕ) (after : Names) →
+        StandsAt (rows table.now) at names ((live s.now).moments after) →
         result ≡ before s.now after x }
 {
     let after = is_live_after(table, s, at, x);
@@ -91,19 +95,21 @@ pub(crate) fn is_live_before(table: &LiveTable, s: &Stmt, at: u32, x: u32) -> bo
 fn is_live_after(table: &LiveTable, s: &Stmt, at: u32, x: u32) -> bool
     requires name { HaveName x (rows table.now) }
     requires room { at + statement_count s.now ≤ length (rows table.now) }
-    ensures { (names : ℕ) (after : Names) → StandsAt (rows table.now) at names ((live s.now).moments after) → result ≡ after x }
+    ensures { (names : ℕ) (after : Names) →
+        StandsAt (rows table.now) at names ((live s.now).moments after) → result ≡ after x }
 {
     table.after(at, x)
 }
 
-// Whether a name is live before statements, of which the first has a number in the table; where there
-// is none, what is given.
+// Whether a name is live before statements, of which the first has a number in the table; where
+// there is none, what is given.
 #[cycle(before)]
 fn is_live_at_start(table: &LiveTable, part: &[Stmt], none: bool, at: u32, x: u32) -> bool
     requires name { HaveName x (rows table.now) }
     requires count { length (rows table.now) < 2 ^ 32 }
     requires room { at + sum (map statement_count part.now) ≤ length (rows table.now) }
-    ensures { (names : ℕ) (end : Names) → StandsAt (rows table.now) at names (moments (map live part.now) end) →
+    ensures { (names : ℕ) (end : Names) →
+        StandsAt (rows table.now) at names (moments (map live part.now) end) →
         result ≡ start_of part.now none end x }
 {
     match part {

@@ -1,6 +1,7 @@
 // Which new names functions may take.
 
-ghost use Rattle.std.specs.Prelude.{◌≡◌, ℕ, ◌<◌, ◌≤◌, ◌^◌, ◌↔◌, IsTrue, length, map, slice_index, sum};
+ghost use Rattle.std.specs.Prelude.{◌≡◌, ℕ, ◌<◌, ◌≤◌, ◌^◌, ◌↔◌, IsTrue};
+ghost use Rattle.std.specs.Prelude.{length, map, slice_index, sum};
 ghost use Rattle.br_flatimp.specs.Liveness.{before, before_all, function_moments, live, moments};
 ghost use Rattle.br_flatimp.specs.Parts.{function_names};
 ghost use Rattle.br_flatimp.specs.Sizes.{function_count, statement_count};
@@ -19,10 +20,11 @@ use br_live::LiveTable;
 /// Whether a function may take the new names of a proposal, where the table says what is live after
 /// its statements: there is one new name for each of its names, and each is below their count. Two
 /// different names that are live at one point get different ones. The new name of a name that is
-/// written is that of no other name that is live after the write: for a buffer, before its body. The
-/// arguments get new names that differ, the results do, and the results of each call. It takes no
-/// memory, and a few steps for each name of each set of the table whose statement writes a name; and
-/// for each name that is live at the function's start a few for each of its names.
+/// written is that of no other name that is live after the write: for a buffer, before its body.
+/// The arguments get new names that differ, the results do, and the results of each call. It takes
+/// no memory. For each name that a statement writes it takes a step for each word of the set after
+/// the statement, and 32 for each that is not 0. For each buffer, and for each name that is live at
+/// the function's start, it takes a few for each name of the function.
 pub fn accepts(f: &FlatFunc, live: &LiveTable, p: &Proposal) -> bool
     requires names { IsTrue (are_below f.now.names (function_names f.now)) }
     requires count { function_count f.now < 2 ^ 32 }
@@ -54,8 +56,10 @@ fn are_apart_at_start(table: &LiveTable, to: &[u32], body: &[Stmt]) -> bool
     requires count { length (rows table.now) < 2 ^ 32 }
     requires few { length to.now < 2 ^ 32 }
     requires room { sum (map statement_count body.now) ≤ length (rows table.now) }
-    ensures { (names : ℕ) (after : Names) → StandsAt (rows table.now) 0 names (moments (map live body.now) after) →
-        (IsTrue result ↔ (0 < length body.now → AreApartBelow (length to.now) (slice_index to.now) (before_all body.now after))) }
+    ensures { (names : ℕ) (after : Names) →
+        StandsAt (rows table.now) 0 names (moments (map live body.now) after) →
+        (IsTrue result ↔ (0 < length body.now →
+        AreApartBelow (length to.now) (slice_index to.now) (before_all body.now after))) }
 {
     match body {
         [s, ..] => are_apart_before(table, to, s),
@@ -68,7 +72,8 @@ fn are_apart_before(table: &LiveTable, to: &[u32], s: &Stmt) -> bool
     requires count { length (rows table.now) < 2 ^ 32 }
     requires few { length to.now < 2 ^ 32 }
     requires room { statement_count s.now ≤ length (rows table.now) }
-    ensures { (names : ℕ) (after : Names) → StandsAt (rows table.now) 0 names ((live s.now).moments after) →
+    ensures { (names : ℕ) (after : Names) →
+        StandsAt (rows table.now) 0 names ((live s.now).moments after) →
         (IsTrue result ↔ AreApartBelow (length to.now) (slice_index to.now) (before s.now after)) }
 {
     for x in 0..to.len() as u32 {

@@ -1,5 +1,5 @@
-//! New names for the names of functions: whether a function may take them, and programs whose functions
-//! took those that they may take.
+//! New names for the names of functions: whether a function may take them, and programs whose
+//! functions took those that they may take.
 #![tactic(auto)]
 
 mod apart;
@@ -13,3 +13,4 @@ mod walk;
 
 pub use assigning::assign;
 pub use checker::accepts;
+pub use count::{has_few_statements, have_few_statements};

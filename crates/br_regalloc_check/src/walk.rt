@@ -1,6 +1,7 @@
 // Whether statements may be renamed, in the order of their rows in the table.
 
-ghost use Rattle.std.specs.Prelude.{◌≡◌, ℕ, ◌+◌, ◌<◌, ◌≤◌, ◌^◌, ◌↔◌, IsTrue, length, map, slice_index, sum};
+ghost use Rattle.std.specs.Prelude.{◌≡◌, ℕ, ◌+◌, ◌<◌, ◌≤◌, ◌^◌, ◌↔◌, IsTrue};
+ghost use Rattle.std.specs.Prelude.{length, map, slice_index, sum};
 ghost use Rattle.std.specs.List.{AllByRecursion, flat_map};
 ghost use Rattle.br_flatimp.specs.Liveness.{before_all, live, moments};
 ghost use Rattle.br_flatimp.specs.Parts.{statement_names};
@@ -15,8 +16,8 @@ use crate::before::is_apart_before;
 use br_flatimp::Stmt;
 use br_live::LiveTable;
 
-/// Whether statements in turn may be renamed. The first has a number in the table, which is moved to
-/// that after the last.
+/// Whether statements in turn may be renamed. The first has a number in the table, which is moved
+/// to that after the last.
 #[cycle(walk)]
 pub(crate) fn may_rename_all(table: &LiveTable, to: &[u32], body: &[Stmt], at: &mut u32) -> bool
     requires bound { HaveBound (length to.now) (rows table.now) }
@@ -25,8 +26,10 @@ pub(crate) fn may_rename_all(table: &LiveTable, to: &[u32], body: &[Stmt], at: &
     requires room { at.old + sum (map statement_count body.now) ≤ length (rows table.now) }
     requires names { IsTrue (are_below (length to.now) (flat_map statement_names body.now)) }
     ensures moved { IsTrue result → at.new ≡ at.old + sum (map statement_count body.now) }
-    ensures may { (names : ℕ) (after : Names) → StandsAt (rows table.now) at.old names (moments (map live body.now) after) →
-        (IsTrue result ↔ AllByRecursion (MayRenameBelow (length to.now) (slice_index to.now)) (moments (map live body.now) after)) }
+    ensures may { (names : ℕ) (after : Names) →
+        StandsAt (rows table.now) at.old names (moments (map live body.now) after) →
+        (IsTrue result ↔ AllByRecursion (MayRenameBelow (length to.now) (slice_index to.now))
+        (moments (map live body.now) after)) }
 {
     for s in body {
         if !may_rename(table, to, s, at) {
@@ -44,8 +47,10 @@ fn may_rename(table: &LiveTable, to: &[u32], s: &Stmt, at: &mut u32) -> bool
     requires room { at.old + statement_count s.now ≤ length (rows table.now) }
     requires names { IsTrue (are_below (length to.now) (statement_names s.now)) }
     ensures moved { IsTrue result → at.new ≡ at.old + statement_count s.now }
-    ensures may { (names : ℕ) (after : Names) → StandsAt (rows table.now) at.old names ((live s.now).moments after) →
-        (IsTrue result ↔ AllByRecursion (MayRenameBelow (length to.now) (slice_index to.now)) ((live s.now).moments after)) }
+    ensures may { (names : ℕ) (after : Names) →
+        StandsAt (rows table.now) at.old names ((live s.now).moments after) →
+        (IsTrue result ↔ AllByRecursion (MayRenameBelow (length to.now) (slice_index to.now))
+        ((live s.now).moments after)) }
 {
     let own = *at;
     *at += 1;
@@ -72,8 +77,8 @@ fn may_rename(table: &LiveTable, to: &[u32], s: &Stmt, at: &mut u32) -> bool
     }
 }
 
-// Whether a buffer's name may be written before the statements that run while it stands. The first of
-// them has the number after that of the buffer.
+// Whether a buffer's name may be written before the statements that run while it stands. The first
+// of them has the number after that of the buffer.
 fn is_apart_before_part(table: &LiveTable, to: &[u32], x: u32, part: &[Stmt], of: u32) -> bool
     requires bound { HaveBound (length to.now) (rows table.now) }
     requires name { x < length to.now }
@@ -82,7 +87,8 @@ fn is_apart_before_part(table: &LiveTable, to: &[u32], x: u32, part: &[Stmt], of
     requires room { of + 1 + sum (map statement_count part.now) ≤ length (rows table.now) }
     ensures { (names : ℕ) (after : Names) → (row_at table.now of).set ≡ after →
         StandsAt (rows table.now) (of + 1) names (moments (map live part.now) after) →
-        (IsTrue result ↔ IsApartBelow (length to.now) (slice_index to.now) x (before_all part.now after)) }
+        (IsTrue result ↔
+        IsApartBelow (length to.now) (slice_index to.now) x (before_all part.now after)) }
 {
     match part {
         [s, ..] => is_apart_before(table, to, x, s, of + 1),

@@ -3,7 +3,7 @@ use Rattle.std.proofs.lemmas.Grind.{common_steps}
 use Rattle.br_flatimp.specs.Runs.{forgets_none}
 use Rattle.br_regalloc_check.specs.Assigned.{AreAssigned}
 use Rattle.br_regalloc_check.proofs.Assigned.{all-renamed}
-use Rattle.br_regalloc_check.proofs.Programs.{all-kept, fit-all, program-formed, program-parts}
+use Rattle.br_regalloc_check.proofs.Programs.{all-kept, all-lean, fit-all, program-formed, program-parts}
 use Rattle.br_regalloc_check.proofs.assigning.assign.Goals as goal
 
 pub functions-requires-clause-fit : goal.functions-requires-clause-fit
@@ -26,3 +26,8 @@ returns-clause-kept c =
     let fs = c.args.p.funcs in
     let assigned : AreAssigned c.from_vec.result c.args.p.funcs c.args.proposals.now = first_of (search rules, grind (arith, common_steps)) in
     all-kept fs c.from_vec.result fs c.args.proposals.now assigned (program-parts fs c.requires.formed).1
+
+pub returns-clause-lean : goal.returns-clause-lean
+returns-clause-lean c =
+    let assigned : AreAssigned c.from_vec.result c.args.p.funcs c.args.proposals.now = first_of (search rules, grind (arith, common_steps)) in
+    all-lean c.from_vec.result c.args.p.funcs c.args.proposals.now assigned
