@@ -1,6 +1,6 @@
 -- What is live in a function is live by its new names in the function that took them. So no statement there is
 -- dead where none was before.
-use Rattle.std.proofs.Common.{◌≡◌, ℕ, Bool, true, false, ◌||◌, not, IsTrue, inl, inr, List, [], ◌∷◌, ◌++◌, map, refl, sym, ap, subst, ◌∙◌}
+use Rattle.std.proofs.Common.{◌≡◌, ℕ, Bool, true, false, ◌&&◌, ◌||◌, not, IsTrue, inl, inr, List, [], ◌∷◌, ◌++◌, map, refl, sym, ap, subst, ◌∙◌}
 use Rattle.std.specs.List.{AllByRecursion, list_any}
 use Rattle.std.proofs.lemmas.List.Folds.{list_any-append}
 use Rattle.br_flatimp.specs.declared.program.Cond.{Cond}
@@ -13,7 +13,7 @@ use Rattle.br_flatimp.specs.declared.program.Stmt.TheViews.{roll-Stmt}
 use Rattle.br_flatimp.specs.declared.program.Stmt.TheFolds.{fold-roll-Stmt, ind-Stmt}
 use Rattle.br_flatimp.specs.Values.{Names}
 use Rattle.br_flatimp.specs.Parts.{test_names}
-use Rattle.br_flatimp.specs.Liveness.{nothing, is_in, union, without, Within, Live, Moment, at_test, entry, live, live_step, moments, is_dead, has_no_dead, function_moments}
+use Rattle.br_flatimp.specs.Liveness.{nothing, is_in, union, without, Within, Live, Moment, at_test, entry, live, live_step, moments, is_dead, has_no_dead, has_no_dead_but_copies, function_moments}
 use Rattle.br_flatimp.specs.Renaming.{IsApart, renamed, renamed_step, renamed_test}
 use Rattle.br_flatimp.proofs.Live.{pointwise-entry}
 use Rattle.br_regalloc_check.specs.Accepted.{MayRename}
@@ -34,21 +34,29 @@ or-second false b h = h
 neither : (a b : Bool) → a ≡ false → b ≡ false → (a || b) ≡ false
 neither a b e f = rw (e, f) refl
 
-still-live : (p q : Bool) → (IsTrue p → IsTrue q) → (not (p || false) || false) ≡ false → (not (q || false) || false)
-    ≡ false
-still-live true q f h = rw (f refl) refl
-still-live false q f h = absurd (cc h)
+-- A statement that only writes a name: where that name is live by its new name if it was live before, the statement
+-- is not dead, unless it does not count.
+still-live : (p q counts : Bool) → (IsTrue p → IsTrue q) → ((not (p || false) && counts) || false) ≡ false
+    → ((not (q || false) && counts) || false) ≡ false
+still-live true q counts f h = rw (f refl) refl
+still-live false q true f h = absurd (cc h)
+still-live false true false f h = refl
+still-live false false false f h = refl
+
+-- a dead statement that counts, where copies may be left aside
+abbrev is_bad : Bool → Moment → Bool
+is_bad copies m = is_dead m && (copies || not m.is_copy)
 
 -- moments of two parts
-two-parts : (o1 o2 n1 n2 : List Moment) → (list_any is_dead o1 ≡ false → list_any is_dead n1 ≡ false)
-    → (list_any is_dead o2 ≡ false → list_any is_dead n2 ≡ false)
-    → list_any is_dead (o1 ++ o2) ≡ false → list_any is_dead (n1 ++ n2) ≡ false
-two-parts o1 o2 n1 n2 f g h =
-    let whole = sym (list_any-append is_dead o1 o2) ∙ h in
-    list_any-append is_dead n1 n2
-    ∙ neither (list_any is_dead n1) (list_any is_dead n2)
-    (f (or-first (list_any is_dead o1) (list_any is_dead o2) whole))
-    (g (or-second (list_any is_dead o1) (list_any is_dead o2) whole))
+two-parts : (bad : Moment → Bool) (o1 o2 n1 n2 : List Moment) → (list_any bad o1 ≡ false → list_any bad n1 ≡ false)
+    → (list_any bad o2 ≡ false → list_any bad n2 ≡ false)
+    → list_any bad (o1 ++ o2) ≡ false → list_any bad (n1 ++ n2) ≡ false
+two-parts bad o1 o2 n1 n2 f g h =
+    let whole = sym (list_any-append bad o1 o2) ∙ h in
+    list_any-append bad n1 n2
+    ∙ neither (list_any bad n1) (list_any bad n2)
+    (f (or-first (list_any bad o1) (list_any bad o2) whole))
+    (g (or-second (list_any bad o1) (list_any bad o2) whole))
 
 -- ---- sets
 
@@ -60,8 +68,11 @@ within-union : (a b p q : Names) → Within a p → Within b q → Within (union
 within-union a b p q h k x e = elim (or_cases (a x) (b x) e)
     [ inl i ↦ or_left (p x) (q x) (h x i) | inr i ↦ or_right (p x) (q x) (k x i) ]
 
-module _ (to : ℕ → ℕ)
+module _ (copies : Bool) (to : ℕ → ℕ)
   where
+    abbrev bad : Moment → Bool
+    bad = is_bad copies
+
     -- each name of the first set is in the second by its new name
     abbrev Reaches : Names → Names → Type 0
     Reaches a b = (x : ℕ) → IsTrue (a x) → IsTrue (b (to x))
@@ -93,8 +104,8 @@ module _ (to : ℕ → ℕ)
     record Keeps (new old : Live) : Type 0 where
       reaches : (small large b : Names) → Within small large → May (old.moments large) → Reaches small b
           → Reaches (old.before small) (new.before b)
-      quiet : (a b : Names) → May (old.moments a) → Reaches a b → list_any is_dead (old.moments a) ≡ false
-          → list_any is_dead (new.moments b) ≡ false
+      quiet : (a b : Names) → May (old.moments a) → Reaches a b → list_any bad (old.moments a) ≡ false
+          → list_any bad (new.moments b) ≡ false
 
     abbrev Stays : Stmt → Type 0
     Stays c = Keeps (live (renamed to c)) (live c)
@@ -123,13 +134,13 @@ module _ (to : ℕ → ℕ)
         (all-reach cs small large b within split.1 reaches)
 
     all-quiet : (cs : List Known) (a b : Names) → May (moments (olds cs) a) → Reaches a b
-        → list_any is_dead (moments (olds cs) a) ≡ false
-        → list_any is_dead (moments (news cs) b) ≡ false
+        → list_any bad (moments (olds cs) a) ≡ false
+        → list_any bad (moments (news cs) b) ≡ false
     all-quiet [] a b may reaches h = refl
     all-quiet (e ∷ cs) a b may reaches h =
         let one = (live e.0).moments (entry (olds cs) a) in
         let split = all-split (MayRename to) one (moments (olds cs) a) may in
-        two-parts one (moments (olds cs) a) ((live (renamed to e.0)).moments (entry (news cs) b)) (moments (news cs) b)
+        two-parts bad one (moments (olds cs) a) ((live (renamed to e.0)).moments (entry (news cs) b)) (moments (news cs) b)
         (e.1.quiet (entry (olds cs) a) (entry (news cs) b) split.0 (all-reach cs a a b (λ x i. i) split.1 reaches))
         (all-quiet cs a b split.1 reaches) h
 
@@ -151,23 +162,23 @@ module _ (to : ℕ → ℕ)
     layer : (y : Stmt-F Known) → LayerKeeps (opened y)
     layer (Stmt-F.Lit x n) = record {
       reaches = λ small large b within may r. simple (x ∷ []) [] small large b within may.0.apart r;
-      quiet = λ a b may r. still-live (a x) (b (to x)) (r x);
+      quiet = λ a b may r. still-live (a x) (b (to x)) (copies || true) (r x);
     }
     layer (Stmt-F.Copy x y) = record {
       reaches = λ small large b within may r. simple (x ∷ []) (y ∷ []) small large b within may.0.apart r;
-      quiet = λ a b may r. still-live (a x) (b (to x)) (r x);
+      quiet = λ a b may r. still-live (a x) (b (to x)) (copies || false) (r x);
     }
     layer (Stmt-F.Op x op y (operand.Name z)) = record {
       reaches = λ small large b within may r. simple (x ∷ []) (y ∷ z ∷ []) small large b within may.0.apart r;
-      quiet = λ a b may r. still-live (a x) (b (to x)) (r x);
+      quiet = λ a b may r. still-live (a x) (b (to x)) (copies || true) (r x);
     }
     layer (Stmt-F.Op x op y (operand.Const n)) = record {
       reaches = λ small large b within may r. simple (x ∷ []) (y ∷ []) small large b within may.0.apart r;
-      quiet = λ a b may r. still-live (a x) (b (to x)) (r x);
+      quiet = λ a b may r. still-live (a x) (b (to x)) (copies || true) (r x);
     }
     layer (Stmt-F.Load x size y offset) = record {
       reaches = λ small large b within may r. simple (x ∷ []) (y ∷ []) small large b within may.0.apart r;
-      quiet = λ a b may r. still-live (a x) (b (to x)) (r x);
+      quiet = λ a b may r. still-live (a x) (b (to x)) (copies || true) (r x);
     }
     layer (Stmt-F.Store size y z offset) = record {
       reaches = λ small large b within may r. simple [] (y ∷ z ∷ []) small large b within may.0.apart r;
@@ -175,7 +186,7 @@ module _ (to : ℕ → ℕ)
     }
     layer (Stmt-F.Table x size bytes y) = record {
       reaches = λ small large b within may r. simple (x ∷ []) (y ∷ []) small large b within may.0.apart r;
-      quiet = λ a b may r. still-live (a x) (b (to x)) (r x);
+      quiet = λ a b may r. still-live (a x) (b (to x)) (copies || true) (r x);
     }
     layer (Stmt-F.Stackalloc x n body) = record {
       reaches = λ small large b within may r.
@@ -195,7 +206,7 @@ module _ (to : ℕ → ℕ)
           (all-reach first small large b within split.0 r) (all-reach second small large b within split.1 r));
       quiet = λ a b may r.
           let split = all-split (MayRename to) (moments (olds first) a) (moments (olds second) a) may.1 in
-          two-parts (moments (olds first) a) (moments (olds second) a) (moments (news first) b)
+          two-parts bad (moments (olds first) a) (moments (olds second) a) (moments (news first) b)
           (moments (news second) b)
           (all-quiet first a b split.0 r) (all-quiet second a b split.1 r);
     }
@@ -211,7 +222,7 @@ module _ (to : ℕ → ℕ)
           let split = all-split (MayRename to) (moments (olds first) (tests a))
           (moments (olds last) (entry (olds first) (tests a))) may.1 in
           let reach = reaches-tests a a b split.0 split.1 r in
-          two-parts (moments (olds first) (tests a)) (moments (olds last) (entry (olds first) (tests a)))
+          two-parts bad (moments (olds first) (tests a)) (moments (olds last) (entry (olds first) (tests a)))
           (moments (news first) (tests2 b)) (moments (news last) (entry (news first) (tests2 b)))
           (all-quiet first (tests a) (tests2 b) split.0 reach)
           (all-quiet last (entry (olds first) (tests a)) (entry (news first) (tests2 b)) split.1
@@ -271,17 +282,38 @@ module _ (to : ℕ → ℕ)
     stmts-known (c ∷ cs) = ap (λ ds. c ∷ ds) (stmts-known cs)
 
     pub body-quiet : (cs : List Stmt) (a b : Names) → May (moments (map live cs) a) → Reaches a b
-        → list_any is_dead (moments (map live cs) a) ≡ false
-        → list_any is_dead (moments (map live (map (renamed to) cs)) b) ≡ false
+        → list_any bad (moments (map live cs) a) ≡ false
+        → list_any bad (moments (map live (map (renamed to) cs)) b) ≡ false
     body-quiet cs a b =
-        subst (λ ds. May (moments (map live ds) a) → Reaches a b → list_any is_dead (moments (map live ds) a) ≡ false
-        → list_any is_dead (moments (map live (map (renamed to) ds)) b) ≡ false) (stmts-known cs)
+        subst (λ ds. May (moments (map live ds) a) → Reaches a b → list_any bad (moments (map live ds) a) ≡ false
+        → list_any bad (moments (map live (map (renamed to) ds)) b) ≡ false) (stmts-known cs)
         (all-quiet (known cs) a b)
 
--- A function with new names has no dead statement where the one that it comes from has none.
-pub none-dead : (to : ℕ → ℕ) (f : FlatFunc) → AllByRecursion (MayRename to) (function_moments f)
-    → IsTrue (has_no_dead f) → IsTrue (has_no_dead (function_renamed to f))
-none-dead to f may h =
-    not_of (list_any is_dead (function_moments (function_renamed to f)))
-    (body-quiet to f.body (is_in f.results) (is_in (map to f.results)) may (in_map to f.results)
-    (not_from (list_any is_dead (function_moments f)) h))
+-- a count of all dead statements
+all-count : (ms : List Moment) → list_any (is_bad true) ms ≡ list_any is_dead ms
+all-count [] = refl
+all-count (m ∷ ms) = ap (λ b. b || list_any (is_bad true) ms) (and-true (is_dead m)) ∙ ap (λ b. is_dead m || b) (all-count ms)
+  where
+    and-true : (b : Bool) → (b && true) ≡ b
+    and-true true = refl
+    and-true false = refl
+
+module _ (to : ℕ → ℕ) (f : FlatFunc) (may : AllByRecursion (MayRename to) (function_moments f))
+  where
+    still-quiet : (copies : Bool) → list_any (is_bad copies) (function_moments f) ≡ false
+        → list_any (is_bad copies) (function_moments (function_renamed to f)) ≡ false
+    still-quiet copies h =
+        body-quiet copies to f.body (is_in f.results) (is_in (map to f.results)) may (in_map to f.results) h
+
+    -- A function with new names has no dead statement where the one that it comes from has none.
+    pub none-dead : IsTrue (has_no_dead f) → IsTrue (has_no_dead (function_renamed to f))
+    none-dead h =
+        not_of (list_any is_dead (function_moments (function_renamed to f)))
+        (sym (all-count (function_moments (function_renamed to f)))
+        ∙ still-quiet true (all-count (function_moments f) ∙ not_from (list_any is_dead (function_moments f)) h))
+
+    -- So it is where copies are left aside.
+    pub none-dead-but-copies : IsTrue (has_no_dead_but_copies f) → IsTrue (has_no_dead_but_copies (function_renamed to f))
+    none-dead-but-copies h =
+        not_of (list_any (is_bad false) (function_moments (function_renamed to f)))
+        (still-quiet false (not_from (list_any (is_bad false) (function_moments f)) h))

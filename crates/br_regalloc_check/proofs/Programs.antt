@@ -15,7 +15,7 @@ use Rattle.br_flatimp.specs.WellFormed.{all_differ, are_below, fits, is_well_for
 use Rattle.br_regalloc_check.specs.Assigned.{AreAssigned, IsAssigned, KeepLean, KeepsLean}
 use Rattle.br_regalloc_check.specs.Walks.{IsFit}
 use Rattle.br_regalloc_check.proofs.Checked.{names-below}
-use Rattle.br_regalloc_check.proofs.Dead.{none-dead}
+use Rattle.br_regalloc_check.proofs.Dead.{none-dead, none-dead-but-copies}
 use Rattle.br_regalloc_check.proofs.Formed.{SameCounts, function-fine, function-named, true-le}
 use Rattle.br_regalloc_check.proofs.Lists.{and_both, both_and}
 use Rattle.br_regalloc_check.proofs.Missed.{none-missed}
@@ -137,8 +137,15 @@ all-kept is (q ∷ qs) (f ∷ fs) [] h k = absurd h
 one-lean : (q f : FlatFunc) (p : Proposal) → IsAssigned q f p → KeepsLean q f
 one-lean q f p (inl h) =
     let to = slice_index p.to in
-    subst (λ g. KeepsLean g f) (sym h.1) (record { none_missed = none-missed to f h.0.written; none_dead = none-dead to f h.0.written; bulk = bulk-renamed to f })
-one-lean q f p (inr h) = subst (λ g. KeepsLean g f) (sym h.1) (record { none_missed = λ k. k; none_dead = λ k. k; bulk = refl })
+    subst (λ g. KeepsLean g f) (sym h.1) (record {
+      none_missed = none-missed to f h.0.written;
+      none_dead = none-dead to f h.0.written;
+      none_dead_but_copies = none-dead-but-copies to f h.0.written;
+      bulk = bulk-renamed to f;
+    })
+one-lean q f p (inr h) =
+    subst (λ g. KeepsLean g f) (sym h.1)
+    (record { none_missed = λ k. k; none_dead = λ k. k; none_dead_but_copies = λ k. k; bulk = refl })
 
 pub all-lean : (qs fs : List FlatFunc) (ps : List Proposal) → AreAssigned qs fs ps → KeepLean qs fs
 all-lean [] [] [] h = tt

@@ -2,7 +2,7 @@
 use Rattle.std.specs.Prelude.{◌≡◌, ℕ, suc, List, [], ◌∷◌, map, slice_index, ◌⊎◌, IsTrue}
 use Rattle.br_flatimp.specs.declared.program.FlatFunc.{FlatFunc}
 use Rattle.br_flatimp.specs.declared.program.Proposal.{Proposal}
-use Rattle.br_flatimp.specs.Liveness.{has_no_dead}
+use Rattle.br_flatimp.specs.Liveness.{has_no_dead, has_no_dead_but_copies}
 use Rattle.br_flatimp.specs.Missed.{has_no_missed}
 use Rattle.br_flatimp.specs.Parts.{function_names}
 use Rattle.br_flatimp.specs.Renaming.{renamed}
@@ -43,10 +43,12 @@ AreAssigned (q ∷ qs) (f ∷ fs) [] = ⊥
 -- ---- operands and dead statements
 
 -- A function with new names beside the one that it comes from: it misses no operand if that one
--- misses none, has no dead statement if that one has none, and its bulk is the same.
+-- misses none, has no dead statement if that one has none, none but copies if that one has none but copies, and
+-- its bulk is the same.
 pub record KeepsLean (q f : FlatFunc) : Type 0 where
   pub none_missed : IsTrue (has_no_missed f) → IsTrue (has_no_missed q)
   pub none_dead : IsTrue (has_no_dead f) → IsTrue (has_no_dead q)
+  pub none_dead_but_copies : IsTrue (has_no_dead_but_copies f) → IsTrue (has_no_dead_but_copies q)
   pub bulk : function_bulk q ≡ function_bulk f
 
 -- each function beside the one that it comes from
