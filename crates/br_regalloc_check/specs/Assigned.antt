@@ -43,8 +43,8 @@ AreAssigned (q ∷ qs) (f ∷ fs) [] = ⊥
 -- ---- operands and dead statements
 
 -- A function with new names beside the one that it comes from: it misses no operand if that one
--- misses none, has no dead statement if that one has none, none but copies if that one has none but copies, and
--- its bulk is the same.
+-- misses none, has no dead statement if that one has none, and none but copies if that one has none
+-- but copies. Its bulk is the same.
 pub record KeepsLean (q f : FlatFunc) : Type 0 where
   pub none_missed : IsTrue (has_no_missed f) → IsTrue (has_no_missed q)
   pub none_dead : IsTrue (has_no_dead f) → IsTrue (has_no_dead q)
