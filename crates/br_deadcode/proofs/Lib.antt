@@ -9,3 +9,7 @@ pub mod Sizes
 pub mod Runs
 pub mod Missing
 pub mod Rounds
+pub mod Closed
+pub mod Trims
+pub mod Trimmed
+pub mod TrimmedSizes

@@ -19,25 +19,25 @@ use Rattle.br_deadcode.proofs.Idle.{idle-map}
 use Rattle.br_deadcode.proofs.Exact.{apart, not_true, and-second}
 
 -- looking back over what is left and over all statements, the same literal is found for each live name
-abbrev AgreeOn : Names → List Shown → List Shown → Type 0
+abbrev pub AgreeOn : Names → List Shown → List Shown → Type 0
 AgreeOn a left all = (y : ℕ) → IsTrue (a y) → literal_of y left ≡ literal_of y all
 
-abbrev shown_of : Option Stmt → Option Shown
+abbrev pub shown_of : Option Stmt → Option Shown
 shown_of None = None
 shown_of (Some c) = Some (shown c)
 
-abbrev front : Option Shown → List Shown → List Shown
+abbrev pub front : Option Shown → List Shown → List Shown
 front None earlier = earlier
 front (Some s) earlier = s ∷ earlier
 
-abbrev missed : Option Shown → List Shown → Bool
+abbrev pub missed : Option Shown → List Shown → Bool
 missed None earlier = false
 missed (Some s) earlier = is_missed s.operand earlier || s.misses
 
 -- a statement and what is left of it, after others
-record Passes (a : Names) (o : Option Shown) (s : Shown) (left all : List Shown) : Type 0 where
-  after : AgreeOn a (front o left) (s ∷ all)
-  none : (is_missed s.operand all || s.misses) ≡ false → missed o left ≡ false
+pub record Passes (a : Names) (o : Option Shown) (s : Shown) (left all : List Shown) : Type 0 where
+  pub after : AgreeOn a (front o left) (s ∷ all)
+  pub none : (is_missed s.operand all || s.misses) ≡ false → missed o left ≡ false
 
 abbrev Fine : Stmt → Type 0
 Fine c =
@@ -49,15 +49,15 @@ AllFine cs =
     (a : Names) (left all : List Shown) → AgreeOn (before_left cs a) left all
     → misses_after all (map shown cs) ≡ false → misses_after left (map shown (left_of cs a)) ≡ false
 
-or-first : (a b : Bool) → (a || b) ≡ false → a ≡ false
+pub or-first : (a b : Bool) → (a || b) ≡ false → a ≡ false
 or-first true b h = absurd (cc h)
 or-first false b h = refl
 
-or-second : (a b : Bool) → (a || b) ≡ false → b ≡ false
+pub or-second : (a b : Bool) → (a || b) ≡ false → b ≡ false
 or-second true b h = absurd (cc h)
 or-second false b h = h
 
-put-misses : (o : Option Stmt) (ds : List Stmt) (left : List Shown) → missed (shown_of o) left ≡ false
+pub put-misses : (o : Option Stmt) (ds : List Stmt) (left : List Shown) → missed (shown_of o) left ≡ false
     → misses_after (front (shown_of o) left) (map shown ds) ≡ false → misses_after left (map shown (put o ds)) ≡ false
 put-misses None ds left h k = k
 put-misses (Some c) ds left h k = rw (h, k) refl
@@ -129,7 +129,7 @@ operand-same (Stmt-F.Read x y) left all agree = refl
 operand-same (Stmt-F.Write y z) left all agree = refl
 
 -- a statement with no parts
-simple-fine : (y : Stmt-F Shown) (a : Names) (left all : List Shown)
+pub simple-fine : (y : Stmt-F Shown) (a : Names) (left all : List Shown)
     → AgreeOn (union (without a (written y)) (is_in (read y))) left all
     → Passes a (Some (shown_step y)) (shown_step y) left all
 simple-fine y a left all agree =
@@ -141,11 +141,11 @@ simple-fine y a left all agree =
       none = λ h. ap (λ b. b || (shown_step y).misses) same ∙ h;
     }
 
-one-part : (a b : Bool) → (a ≡ false → b ≡ false) → (a || false) ≡ false → (b || false) ≡ false
+pub one-part : (a b : Bool) → (a ≡ false → b ≡ false) → (a || false) ≡ false → (b || false) ≡ false
 one-part true b k h = absurd (cc h)
 one-part false b k h = rw (k refl) refl
 
-two-parts : (a b c d : Bool) → (a ≡ false → c ≡ false) → (b ≡ false → d ≡ false) → (a || (b || false)) ≡ false
+pub two-parts : (a b c d : Bool) → (a ≡ false → c ≡ false) → (b ≡ false → d ≡ false) → (a || (b || false)) ≡ false
     → (c || (d || false)) ≡ false
 two-parts true b c d k l h = absurd (cc h)
 two-parts false true c d k l h = absurd (cc h)
@@ -203,7 +203,7 @@ and-first : (a b : Bool) → (a && b) ≡ true → a ≡ true
 and-first true b e = refl
 and-first false b e = absurd (cc e)
 
-idle-fine : (y : Stmt-F Shown) (a : Names) (left all : List Shown) → is_idle y a ≡ true → AgreeOn a left all
+pub idle-fine : (y : Stmt-F Shown) (a : Names) (left all : List Shown) → is_idle y a ≡ true → AgreeOn a left all
     → Passes a None (shown_step y) left all
 idle-fine y a left all idle agree = record {
   after = λ z alive.
@@ -220,7 +220,7 @@ idle-fine y a left all idle agree = record {
 
 -- ---- statements in turn, and functions
 
-choice-fine : (x z : Stmt-F Stmt) (a b : Names) (i : Bool) → (i ≡ true → is_idle x a ≡ true)
+pub choice-fine : (x z : Stmt-F Stmt) (a b : Names) (i : Bool) → (i ≡ true → is_idle x a ≡ true)
     → ((left all : List Shown) → AgreeOn b left all
     → Passes a (Some (shown_step (map-Stmt Stmt Shown shown z))) (shown_step (map-Stmt Stmt Shown shown x)) left all)
     → (left all : List Shown) → AgreeOn (if i then a else b) left all

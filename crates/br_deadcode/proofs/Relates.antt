@@ -26,11 +26,11 @@ pub record Relation {X : Type 0} (g : Stmt-F X → X) (one : X → X → Type 0)
   pub turns : (test : Cond) (xs ys us vs : List X) → all xs ys → all us vs
       → one (g (Stmt-F.Loop xs test us)) (g (Stmt-F.Loop ys test vs))
 
-and-first : (a b : Bool) → (a && b) ≡ true → a ≡ true
+pub and-first : (a b : Bool) → (a && b) ≡ true → a ≡ true
 and-first true b e = refl
 and-first false b e = absurd (cc e)
 
-removable-map : {X Y : Type 0} (f : X → Y) (y : Stmt-F X) → is_removable (map-Stmt X Y f y) ≡ is_removable y
+pub removable-map : {X Y : Type 0} (f : X → Y) (y : Stmt-F X) → is_removable (map-Stmt X Y f y) ≡ is_removable y
 removable-map f (Stmt-F.Lit x n) = refl
 removable-map f (Stmt-F.Copy x y) = refl
 removable-map f (Stmt-F.Op x op y z) = refl
@@ -45,7 +45,7 @@ removable-map f (Stmt-F.Read x y) = refl
 removable-map f (Stmt-F.Write y z) = refl
 
 -- a statement and what is left of it, in front of others
-abbrev Left : {X : Type 0} (g : Stmt-F X → X) (all : List X → List X → Type 0) → Option Stmt → Stmt → Type 0
+abbrev pub Left : {X : Type 0} (g : Stmt-F X → X) (all : List X → List X → Type 0) → Option Stmt → Stmt → Type 0
 Left {X} g all o c =
     (ds : List Stmt) (ys : List X) → all (map (fold-Stmt X g) ds) ys
     → all (map (fold-Stmt X g) (put o ds)) (fold-Stmt X g c ∷ ys)
@@ -102,7 +102,7 @@ kept-related {X} g one all r (Stmt-F.Loop first test last) a =
     (each-left g one all r first t) (each-left g one all r last s)
 
 -- a statement that is idle or kept
-choice-related : {X : Type 0} (g : Stmt-F X → X) (one : X → X → Type 0) (all : List X → List X → Type 0)
+pub choice-related : {X : Type 0} (g : Stmt-F X → X) (one : X → X → Type 0) (all : List X → List X → Type 0)
     → Relation g one all → (x : Stmt-F Stmt) (b : Bool) (z : Stmt-F Stmt) → (b ≡ true → is_removable x ≡ true)
     → one (g (map-Stmt Stmt X (fold-Stmt X g) z)) (g (map-Stmt Stmt X (fold-Stmt X g) x))
     → Left g all (if b then None else Some (roll-Stmt z)) (roll-Stmt x)

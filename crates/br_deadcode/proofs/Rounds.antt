@@ -33,7 +33,7 @@ item-formed fs i f formed inside is =
     item-of (is_well_formed_function fs) fs i f
     (and-second (names_differ fs) (list_all (is_well_formed_function fs) fs) formed) inside is
 
-next : (fs : List FlatFunc) (i : ℕ) (f : FlatFunc) → i < length fs → f ≡ get_or fs i f
+pub next : (fs : List FlatFunc) (i : ℕ) (f : FlatFunc) → i < length fs → f ≡ get_or fs i f
     → drop i fs ≡ f ∷ drop (i + 1) fs
 next fs i f inside is = rw (add-one, drop-cons fs i f, ← is) refl
 

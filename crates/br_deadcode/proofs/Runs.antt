@@ -37,23 +37,23 @@ use Rattle.br_deadcode.proofs.Exact.{not_true, shrinks-all}
 
 -- ---- names as they are
 
-abbrev id : ℕ → ℕ
+abbrev pub id : ℕ → ℕ
 id x = x
 
-same_test : (t : Cond) → renamed_test id t ≡ t
+pub same_test : (t : Cond) → renamed_test id t ≡ t
 same_test (NonZero y) = refl
 same_test (Compare rel y z) = refl
 
-same_names : (xs : List ℕ) → map id xs ≡ xs
+pub same_names : (xs : List ℕ) → map id xs ≡ xs
 same_names [] = refl
 same_names (x ∷ xs) = ap (λ ys. x ∷ ys) (same_names xs)
 
 -- the first run is that of what is left
-abbrev run_left : Callee → Option Stmt → State → Run
+abbrev pub run_left : Callee → Option Stmt → State → Run
 run_left q None s = Goes s
 run_left q (Some c) s = run forgets_none q c s
 
-run-put : (q : Callee) (o : Option Stmt) (cs : List Stmt) (s : State)
+pub run-put : (q : Callee) (o : Option Stmt) (cs : List Stmt) (s : State)
     → run_all forgets_none q (put o cs) s ≡ then_do (run_left q o s) (run_all forgets_none q cs)
 run-put q None cs s = refl
 run-put q (Some c) cs s = refl
@@ -92,7 +92,7 @@ opened q p y = map-Stmt (Each q p) Stmt (λ e. e.0) y
 
 -- ---- one statement
 
-abbrev ran : Callee → Stmt-F Stmt → State → Run
+abbrev pub ran : Callee → Stmt-F Stmt → State → Run
 ran q z = statement_step forgets_none q (map-Stmt Stmt (State → Run) (run forgets_none q) z)
 
 -- what is kept of a statement runs as the statement
@@ -101,7 +101,7 @@ KeptRuns q p a z =
     (s t : State) → At id (before_kept (map-Stmt Stmt Swept sweep z) a) s t
     → Matches (At id a) Outside (ran q (kept (map-Stmt Stmt Swept sweep z) a) s) (ran p z t)
 
-simple-runs : (q p : Callee) → CalleesMatch q p → (y : Stmt-F (State → Run)) (a : Names) (s t : State) → parts y ≡ []
+pub simple-runs : (q p : Callee) → CalleesMatch q p → (y : Stmt-F (State → Run)) (a : Names) (s t : State) → parts y ≡ []
     → renamed_step id y ≡ y → At id (needed y a) s t
     → Matches (At id a) Outside (statement_step forgets_none q y s) (statement_step forgets_none p y t)
 simple-runs q p callees y a s t simple same h =
@@ -110,15 +110,15 @@ simple-runs q p callees y a s t simple same h =
     (renamed-simple id forgets_none forgets_none q p callees y a s t simple
     (record { apart = λ x i z alive e. e; kept = λ g x i alive not. refl }) h)
 
-same_operand : (x : ℕ) (op : BinOp) (y : ℕ) (z : Operand)
+pub same_operand : (x : ℕ) (op : BinOp) (y : ℕ) (z : Operand)
     → renamed_step {X = State → Run} id (Stmt-F.Op x op y z) ≡ Stmt-F.Op x op y z
 same_operand x op y (operand.Name z) = refl
 same_operand x op y (operand.Const c) = refl
 
-abbrev called : ℕ → List ℕ → List ℕ → Stmt-F (State → Run)
+abbrev pub called : ℕ → List ℕ → List ℕ → Stmt-F (State → Run)
 called g xs ys = Stmt-F.Call xs g ys
 
-same_call : (xs : List ℕ) (g : ℕ) (ys : List ℕ)
+pub same_call : (xs : List ℕ) (g : ℕ) (ys : List ℕ)
     → renamed_step {X = State → Run} id (Stmt-F.Call xs g ys) ≡ Stmt-F.Call xs g ys
 same_call xs g ys =
     ap (λ (l : List ℕ). called g l (map id ys)) (same_names xs) ∙ ap (called g xs) (same_names ys)
@@ -229,7 +229,7 @@ skip-set a x v s t gone h =
     }
 
 -- it does not show, and what it reads need not be the same
-idle-runs : (q p : Callee) (y : Stmt-F (State → Run)) (a : Names) (s t : State) → is_idle y a ≡ true → At id a s t
+pub idle-runs : (q p : Callee) (y : Stmt-F (State → Run)) (a : Names) (s t : State) → is_idle y a ≡ true → At id a s t
     → Matches (At id a) Outside (Goes s) (statement_step forgets_none p y t)
 idle-runs q p (Stmt-F.Lit x n) a s t idle h = skip-set a x n s t idle h
 idle-runs q p (Stmt-F.Copy x y) a s t idle h =
@@ -259,7 +259,7 @@ idle-runs q p (Stmt-F.Write y z) a s t idle h = absurd (cc idle)
 -- ---- statements in turn, functions and programs
 
 -- a statement that is idle or kept
-choice-runs : (q p : Callee) (x z : Stmt-F Stmt) (a b : Names) (i : Bool) → (i ≡ true → is_idle x a ≡ true)
+pub choice-runs : (q p : Callee) (x z : Stmt-F Stmt) (a b : Names) (i : Bool) → (i ≡ true → is_idle x a ≡ true)
     → ((s t : State) → At id b s t → Matches (At id a) Outside (ran q z s) (ran p x t))
     → (s t : State) → At id (if i then a else b) s t
     → Matches (At id a) Outside (run_left q (if i then None else Some (roll-Stmt z)) s)

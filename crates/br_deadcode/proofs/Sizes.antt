@@ -20,13 +20,13 @@ use Rattle.br_deadcode.proofs.Relates.{Relation, left-related}
 
 -- ---- units
 
-abbrev units_step : Stmt-F ℕ → ℕ
+abbrev pub units_step : Stmt-F ℕ → ℕ
 units_step y = own_units y + sum (map sum (parts y))
 
-abbrev NotAbove : ℕ → ℕ → Type 0
+abbrev pub NotAbove : ℕ → ℕ → Type 0
 NotAbove x y = x ≤ y
 
-abbrev SumNotAbove : List ℕ → List ℕ → Type 0
+abbrev pub SumNotAbove : List ℕ → List ℕ → Type 0
 SumNotAbove xs ys = sum xs ≤ sum ys
 
 one_sum : (k m n : ℕ) → m ≤ n → k + (0 + m) ≤ k + (0 + n)
@@ -35,7 +35,7 @@ one_sum k m n h = omega arith
 two_sums : (k m n i j : ℕ) → m ≤ n → i ≤ j → k + ((0 + m) + i) ≤ k + ((0 + n) + j)
 two_sums k m n i j h g = omega arith
 
-both_not_above : (x y m n : ℕ) → x ≤ y → m ≤ n → x + m ≤ y + n
+pub both_not_above : (x y m n : ℕ) → x ≤ y → m ≤ n → x + m ≤ y + n
 both_not_above x y m n h g = omega arith
 
 sums-cons : (x y : ℕ) (xs ys : List ℕ) → x ≤ y → sum xs ≤ sum ys → sum (x ∷ xs) ≤ sum (y ∷ ys)
@@ -44,10 +44,10 @@ sums-cons x y xs ys h g = let a = sum_cons x xs in let b = sum_cons y ys in omeg
 sums-skip : (y : ℕ) (xs ys : List ℕ) → sum xs ≤ sum ys → sum xs ≤ sum (y ∷ ys)
 sums-skip y xs ys h = let b = sum_cons y ys in omega (arith, b, h)
 
-itself : (n : ℕ) → n ≤ n
+pub itself : (n : ℕ) → n ≤ n
 itself n = omega arith
 
-units-relation : Relation units_step NotAbove SumNotAbove
+pub units-relation : Relation units_step NotAbove SumNotAbove
 units-relation = record {
   same = itself;
   nil = itself 0;
@@ -60,10 +60,10 @@ units-relation = record {
 
 -- ---- buffers
 
-abbrev nest_step : Stmt-F ℕ → ℕ
+abbrev pub nest_step : Stmt-F ℕ → ℕ
 nest_step y = own_bytes y + largest (map largest (parts y))
 
-abbrev LargestNotAbove : List ℕ → List ℕ → Type 0
+abbrev pub LargestNotAbove : List ℕ → List ℕ → Type 0
 LargestNotAbove xs ys = largest xs ≤ largest ys
 
 one_largest : (k m n : ℕ) → m ≤ n → k + max m 0 ≤ k + max n 0
@@ -78,7 +78,7 @@ both_largest x y m n h g = omega arith
 more_largest : (k m n : ℕ) → m ≤ n → m ≤ max k n
 more_largest k m n h = omega arith
 
-nest-relation : Relation nest_step NotAbove LargestNotAbove
+pub nest-relation : Relation nest_step NotAbove LargestNotAbove
 nest-relation = record {
   same = itself;
   nil = itself 0;
@@ -94,13 +94,13 @@ nest-relation = record {
 abbrev all_items : List (List ℕ) → List ℕ
 all_items = flat_map (λ xs. xs)
 
-abbrev callees_step : Stmt-F (List ℕ) → List ℕ
+abbrev pub callees_step : Stmt-F (List ℕ) → List ℕ
 callees_step y = own_callees y ++ flat_map all_items (parts y)
 
-abbrev Among : List ℕ → List ℕ → Type 0
+abbrev pub Among : List ℕ → List ℕ → Type 0
 Among xs ys = (g : ℕ) → Contains xs g → Contains ys g
 
-abbrev AllAmong : List (List ℕ) → List (List ℕ) → Type 0
+abbrev pub AllAmong : List (List ℕ) → List (List ℕ) → Type 0
 AllAmong xs ys = Among (all_items xs) (all_items ys)
 
 among-both : (xs ys us vs : List ℕ) → Among xs ys → Among us vs → Among (xs ++ us) (ys ++ vs)
@@ -113,7 +113,7 @@ among-both xs ys us vs h k g is =
 among-itself : (xs : List ℕ) → Among xs xs
 among-itself xs g h = h
 
-callees-relation : Relation callees_step Among AllAmong
+pub callees-relation : Relation callees_step Among AllAmong
 callees-relation = record {
   same = among-itself;
   nil = among-itself [];
@@ -130,7 +130,7 @@ callees-relation = record {
 
 -- ---- sizes of functions
 
-gathered-all : (cs : List Stmt) → flat_map (gathered own_callees) cs ≡ all_items (map (gathered own_callees) cs)
+pub gathered-all : (cs : List Stmt) → flat_map (gathered own_callees) cs ≡ all_items (map (gathered own_callees) cs)
 gathered-all [] = refl
 gathered-all (c ∷ cs) = ap (λ ys. gathered own_callees c ++ ys) (gathered-all cs)
 
@@ -207,13 +207,13 @@ none-other (Stmt-F.Call xs g ys) h = absurd (cc h)
 none-other (Stmt-F.Read x y) h = absurd (cc h)
 none-other (Stmt-F.Write y z) h = absurd (cc h)
 
-abbrev Same : List Stmt → List Stmt → Type 0
+abbrev pub Same : List Stmt → List Stmt → Type 0
 Same xs ys = xs ≡ ys
 
-abbrev JoinedSame : List (List Stmt) → List (List Stmt) → Type 0
+abbrev pub JoinedSame : List (List Stmt) → List (List Stmt) → Type 0
 JoinedSame xs ys = joined xs ≡ joined ys
 
-others-relation : Relation others_step Same JoinedSame
+pub others-relation : Relation others_step Same JoinedSame
 others-relation = record {
   same = λ x. refl;
   nil = refl;
@@ -228,7 +228,7 @@ others-relation = record {
       ∙ ap (λ zs. roll-Stmt (Stmt-F.Loop (joined ys) test zs) ∷ []) g;
 }
 
-others-all : (cs : List Stmt) → flat_map others cs ≡ joined (map others cs)
+pub others-all : (cs : List Stmt) → flat_map others cs ≡ joined (map others cs)
 others-all [] = refl
 others-all (c ∷ cs) = ap (λ ys. others c ++ ys) (others-all cs)
 
@@ -260,27 +260,27 @@ pairs-trans R trans (r ∷ rs) (q ∷ qs) [] h k = absurd k
 
 -- ---- well formed
 
-and-first : (a b : Bool) → (a && b) ≡ true → a ≡ true
+pub and-first : (a b : Bool) → (a && b) ≡ true → a ≡ true
 and-first true b e = refl
 and-first false b e = absurd (cc e)
 
-and-second : (a b : Bool) → (a && b) ≡ true → b ≡ true
+pub and-second : (a b : Bool) → (a && b) ≡ true → b ≡ true
 and-second true b e = e
 and-second false b e = absurd (cc e)
 
-both : (a b : Bool) → a ≡ true → b ≡ true → (a && b) ≡ true
+pub both : (a b : Bool) → a ≡ true → b ≡ true → (a && b) ≡ true
 both a b e f = rw (e, f) refl
 
-abbrev fits_step : List FlatFunc → ℕ → Stmt-F Bool → Bool
+abbrev pub fits_step : List FlatFunc → ℕ → Stmt-F Bool → Bool
 fits_step fs names y = fits fs names y && list_all (list_all (λ ok. ok)) (parts y)
 
-abbrev Follows : Bool → Bool → Type 0
+abbrev pub Follows : Bool → Bool → Type 0
 Follows b c = c ≡ true → b ≡ true
 
-abbrev all_true : List Bool → Bool
+abbrev pub all_true : List Bool → Bool
 all_true = list_all (λ ok. ok)
 
-abbrev AllFollow : List Bool → List Bool → Type 0
+abbrev pub AllFollow : List Bool → List Bool → Type 0
 AllFollow bs cs = all_true cs ≡ true → all_true bs ≡ true
 
 one-part : (a b c : Bool) → (b ≡ true → c ≡ true) → (a && (b && true)) ≡ true → (a && (c && true)) ≡ true
@@ -295,7 +295,7 @@ two-parts true true false d e k l h = absurd (cc h)
 two-parts true false c d e k l h = absurd (cc h)
 two-parts false b c d e k l h = absurd (cc h)
 
-formed-relation : (fs : List FlatFunc) (names : ℕ) → Relation (fits_step fs names) Follows AllFollow
+pub formed-relation : (fs : List FlatFunc) (names : ℕ) → Relation (fits_step fs names) Follows AllFollow
 formed-relation fs names = record {
   same = λ x h. h;
   nil = λ h. h;
@@ -312,7 +312,7 @@ formed-relation fs names = record {
       (all_true ds) h g;
 }
 
-all-made : (t : Stmt → Bool) (cs : List Stmt) → all_true (map t cs) ≡ list_all t cs
+pub all-made : (t : Stmt → Bool) (cs : List Stmt) → all_true (map t cs) ≡ list_all t cs
 all-made t [] = refl
 all-made t (c ∷ cs) = ap (λ b. t c && b) (all-made t cs)
 

@@ -3,8 +3,10 @@
 
 mod copies;
 mod dead;
+mod needed;
 mod program;
 mod sweep;
+mod unneeded;
 
 pub use program::remove_dead;
 

@@ -10,6 +10,7 @@ ghost use Rattle.br_deadcode.specs.LeftOut.{HasSameOthers, InPairs, MissesNoMore
 ghost use Rattle.br_deadcode.specs.Sweeps.{program_leaves, swept_program};
 
 use crate::sweep::sweep_function;
+use crate::unneeded::remove_unneeded;
 use br_base::NoMemory;
 use br_flatimp::{FlatFunc, FlatProgram};
 use br_live::names_are_below;
@@ -21,6 +22,21 @@ use std::alloc::Global;
 /// program means the same at the same fuel, its sizes and callees do not grow, and where no operand of
 /// a function is missed, none of the answer's is. Answers want of memory alone.
 pub fn remove_dead(alloc: Global, p: FlatProgram) -> Result<FlatProgram, NoMemory>
+    requires { IsWellFormed p.funcs }
+    ensures well_formed { IfOk result (λ q. IsWellFormed q.funcs) }
+    ensures refines { IfOk result (λ q. Refines (meaning q.funcs) (meaning p.funcs)) }
+    ensures kept { IfOk result (λ q. Kept q.funcs p.funcs) }
+    ensures none_dead { IfOk result (λ q. IsTrue (list_all has_no_dead q.funcs)) }
+    ensures others_stay { IfOk result (λ q. InPairs HasSameOthers q.funcs p.funcs) }
+    ensures missed { IfOk result (λ q. InPairs MissesNoMore q.funcs p.funcs) }
+{
+    let needed = remove_unneeded(alloc, p)?;
+    let left = sweep_program(alloc, needed)?;
+    Ok(left)
+}
+
+// Sweeps, until one leaves nothing out.
+fn sweep_program(alloc: Global, p: FlatProgram) -> Result<FlatProgram, NoMemory>
     requires { IsWellFormed p.funcs }
     ensures well_formed { IfOk result (λ q. IsWellFormed q.funcs) }
     ensures refines { IfOk result (λ q. Refines (meaning q.funcs) (meaning p.funcs)) }

@@ -2,7 +2,7 @@
 use Rattle.br_flatimp.specs.WellFormed.{IsWellFormed}
 use Rattle.br_deadcode.proofs.Falls.{program_count}
 use Rattle.br_deadcode.proofs.Rounds.{IsLeftOf}
-use Rattle.br_deadcode.proofs.program.remove_dead.Given as goal
+use Rattle.br_deadcode.proofs.program.sweep_program.Given as goal
 
 abbrev pub invariant-rounds : goal.invariant-rounds
 invariant-rounds l = record { formed : IsWellFormed l.funcs; left : IsLeftOf l.funcs l.initial.funcs }
