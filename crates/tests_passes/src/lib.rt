@@ -1,4 +1,5 @@
-//! Tests of flat programs, register form, the compiler and the program of the firmware. They stand in a crate of their own, since the proof of a crate with tests is made twice.
+//! Tests of flat programs, new names, register form, the compiler and the program of the firmware.
+//! They stand in a crate of their own, since the proof of a crate with tests is made twice.
 #![tactic(auto)]
 
 #[cfg(test)]
@@ -11,5 +12,7 @@ mod immediates;
 mod lightbulb;
 #[cfg(test)]
 mod lowering;
+#[cfg(test)]
+mod names;
 #[cfg(test)]
 mod spilling;
