@@ -143,8 +143,8 @@ fn names_that_are_live_together_stay_apart(rt: HostRuntime) -> Result<(), Fail> 
     Ok(())
 }
 
-// In a loop that exchanges the names 1 and 2 through 3, the name 3 stays apart from 2, which is read
-// after it is written, and from 1, which is written before it is read. The name 0 is read by the test.
+// In a loop that exchanges the names 1 and 2 through 3, the name 3 stays apart from 2, which is
+// read after it is written, and from 1, which is written before it is read. The test reads 0.
 #[test]
 fn an_exchange_in_a_loop(rt: HostRuntime) -> Result<(), Fail> {
     let alloc = rt.alloc();
@@ -200,7 +200,8 @@ fn names_in_parts_may_share(rt: HostRuntime) -> Result<(), Fail> {
 }
 
 // A buffer's name is written before its body runs, so it stays apart from a name that only the body
-// reads, though nobody reads the buffer's name. There is one new name for each name, below the count.
+// reads, though nobody reads the buffer's name. There is one new name for each name, below their
+// count.
 #[test]
 fn a_buffers_name_and_the_count(rt: HostRuntime) -> Result<(), Fail> {
     let alloc = rt.alloc();
