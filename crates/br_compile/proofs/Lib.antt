@@ -1,3 +1,4 @@
+mod Grown
 mod Needing
 mod Passes
 mod Counts

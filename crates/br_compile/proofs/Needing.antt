@@ -17,8 +17,8 @@ use Rattle.br_flatimp.specs.declared.program.FlatFunc.{FlatFunc}
 use Rattle.br_flatimp.specs.Parts.{callees}
 use Rattle.br_flatimp.specs.Sizes.{Calls, CallPath, HasNoRecursion, largest, need, nest}
 use Rattle.br_flatten.specs.Flatten.{callee_number}
-use Rattle.br_flatten.specs.Sized.{IsSized, AreSized}
-use Rattle.br_spill.specs.Spill.{Layout, Fits, SpilledFunctions, spilled_function}
+use Rattle.br_flatten.specs.Sized.{AreSized}
+use Rattle.br_compile.specs.Lowered.{HaveGrown}
 
 -- ---- functions by name
 
@@ -49,15 +49,13 @@ named_is fs x low =
     let is = where_named x fs in
     within_option (position_or_len (λ f. bytes_eq f.name x) fs) (length fs) (omega (arith, is, low)) ∙ ap Some (sym is)
 
--- ---- what flattening and spilling keep of each function
+-- ---- what the passes keep of each function
 
--- what the crates below say of sizes
-pub record Laws : Type 0 where
-  pub nest : (l : Layout) (f : FlatFunc) → Fits f.names l → nest (spilled_function l f) ≤ nest f + 4 * f.names
-  pub callees : (l : Layout) (f : FlatFunc) → callees (spilled_function l f) ≡ callees f
-  pub measures : (fs : List Func) (f : ℕ) (caller : Func) → source_paths.HasNoRecursion fs → slice_get fs f ≡ Some caller
-      → source_stack.measure fs caller ≡ 4 * source.function_bulk caller + 256 + source_stack.nested_buffers caller
-      + source_stack.largest (map (λ x. unwrap_or (option_map (source_stack.measure fs) (function_named fs x)) 0) (source_paths.callees caller))
+-- that measures add up, as br_measure says
+abbrev pub MeasuresAdd : Type 0
+MeasuresAdd = (fs : List Func) (f : ℕ) (caller : Func) → source_paths.HasNoRecursion fs → slice_get fs f ≡ Some caller
+    → source_stack.measure fs caller ≡ 4 * source.function_bulk caller + 256 + source_stack.nested_buffers caller
+    + source_stack.largest (map (λ x. unwrap_or (option_map (source_stack.measure fs) (function_named fs x)) 0) (source_paths.callees caller))
 
 -- the function of the source that a function in register form comes from
 record Source (fs gs : List Func) (n : ℕ) (q : FlatFunc) : Type 0 where
@@ -66,27 +64,23 @@ record Source (fs gs : List Func) (n : ℕ) (q : FlatFunc) : Type 0 where
   pub nest : nest q ≤ source_stack.nested_buffers func + 4 * source.function_bulk func
   pub callees : (g : ℕ) → Contains (callees q) g → Contains (map (callee_number fs) (source_paths.callees func)) g
 
-one_source : Laws → (fs : List Func) (f : Func) (p q : FlatFunc) (l : Layout) → IsSized fs f p → Fits p.names l → q ≡ spilled_function l p
-    → (nest q ≤ source_stack.nested_buffers f + 4 * source.function_bulk f)
-    × ((g : ℕ) → Contains (callees q) g → Contains (map (callee_number fs) (source_paths.callees f)) g)
-one_source laws fs f p q l sized fits is = (
-  omega (arith, ap nest is, laws.nest l p fits, sized.nest, sized.names),
-  λ g called. sized.callees g (subst (λ gs. Contains gs g) (ap callees is ∙ laws.callees l p) called),
-)
-
-source_of : Laws → (fs gs : List Func) (ps qs : List FlatFunc) → AreSized fs gs ps → SpilledFunctions qs ps
+source_of : (fs gs : List Func) (ps qs : List FlatFunc) → AreSized fs gs ps → HaveGrown qs ps
     → (n : ℕ) (q : FlatFunc) → slice_get qs n ≡ Some q → Source fs gs n q
-source_of laws fs [] [] [] sized spilled n q at = absurd (cc)
-source_of laws fs [] [] (r ∷ qs) sized spilled n q at = absurd spilled
-source_of laws fs [] (p ∷ ps) qs sized spilled n q at = absurd sized
-source_of laws fs (f ∷ gs) [] qs sized spilled n q at = absurd sized
-source_of laws fs (f ∷ gs) (p ∷ ps) [] sized spilled n q at = absurd spilled
-source_of laws fs (f ∷ gs) (p ∷ ps) (r ∷ qs) sized spilled zero q at =
+source_of fs [] [] [] sized grown n q at = absurd (cc)
+source_of fs [] [] (r ∷ qs) sized grown n q at = absurd grown
+source_of fs [] (p ∷ ps) qs sized grown n q at = absurd sized
+source_of fs (f ∷ gs) [] qs sized grown n q at = absurd sized
+source_of fs (f ∷ gs) (p ∷ ps) [] sized grown n q at = absurd grown
+source_of fs (f ∷ gs) (p ∷ ps) (r ∷ qs) sized grown zero q at =
     let same : q ≡ r = cc in
-    let keeps = one_source laws fs f p q spilled.0.0 sized.0 spilled.0.1 (same ∙ spilled.0.2) in
-    record { func = f; at = refl; nest = keeps.0; callees = keeps.1 }
-source_of laws fs (f ∷ gs) (p ∷ ps) (r ∷ qs) sized spilled (suc n) q at =
-    let rest = source_of laws fs gs ps qs sized.1 spilled.1 n q at in
+    record {
+      func = f;
+      at = refl;
+      nest = omega (arith, ap nest same, grown.0.nest, sized.0.nest, sized.0.names);
+      callees = λ g called. sized.0.callees g (grown.0.callees g (subst (λ gs. Contains gs g) (ap callees same) called));
+    }
+source_of fs (f ∷ gs) (p ∷ ps) (r ∷ qs) sized grown (suc n) q at =
+    let rest = source_of fs gs ps qs sized.1 grown.1 n q at in
     record { func = rest.func; at = rest.at; nest = rest.nest; callees = rest.callees }
 
 -- ---- measures of callees
@@ -126,10 +120,10 @@ by_number fs (x ∷ xs) =
     ap (λ o. unwrap_or (option_map (source_stack.measure fs) o) 0) (callee_is fs x) in
     ap (λ v. v ∷ map (measure_at fs) (map (callee_number fs) xs)) first ∙ ap (λ vs. measure_named fs x ∷ vs) (by_number fs xs)
 
-module _ (laws : Laws) (fs : List Func) (ps qs : List FlatFunc) (sized : AreSized fs fs ps) (spilled : SpilledFunctions qs ps) (none : source_paths.HasNoRecursion fs)
+module _ (adds : MeasuresAdd) (fs : List Func) (ps qs : List FlatFunc) (sized : AreSized fs fs ps) (grown : HaveGrown qs ps) (none : source_paths.HasNoRecursion fs)
   where
     source_at : (n : ℕ) (q : FlatFunc) → slice_get qs n ≡ Some q → Source fs fs n q
-    source_at = source_of laws fs fs ps qs sized spilled
+    source_at = source_of fs fs ps qs sized grown
 
     -- the measures bound what the functions need
     measures_bound : (n : ℕ) (q : FlatFunc) → slice_get qs n ≡ Some q → 120 + nest q + largest (map (measure_at fs) (callees q)) ≤ measure_at fs n
@@ -140,7 +134,7 @@ module _ (laws : Laws) (fs : List Func) (ps qs : List FlatFunc) (sized : AreSize
         let called = largest_within (measure_at fs) (callees q) all s.callees in
         let named : largest (map (measure_at fs) all) ≡ source_stack.largest (map (measure_named fs) (source_paths.callees s.func)) =
         same_largest (map (measure_at fs) all) ∙ ap source_stack.largest (by_number fs (source_paths.callees s.func)) in
-        omega (arith, here, called, named, s.nest, laws.measures fs n s.func none s.at)
+        omega (arith, here, called, named, s.nest, adds fs n s.func none s.at)
 
     pub needs_within : ((bound : ℕ → ℕ)
         → ((n : ℕ) (q : FlatFunc) → slice_get qs n ≡ Some q → 120 + nest q + largest (map bound (callees q)) ≤ bound n)

@@ -1,8 +1,8 @@
 -- What the passes make of a program of the source, by their contracts.
-use Rattle.std.proofs.Common.{◌≡◌, ℕ, ◌+◌, ◌*◌, ◌<◌, ◌≤◌, Bool, true, false, ◌&&◌, List, [], ◌∷◌, map, length, Some, refl, sym, ap, subst, ◌∙◌, slice_get, get_or, min, sum, arith}
+use Rattle.std.proofs.Common.{◌≡◌, ℕ, ◌+◌, ◌<◌, ◌≤◌, Bool, true, false, ◌&&◌, List, [], ◌∷◌, map, length, Some, refl, sym, ap, subst, ◌∙◌, slice_get, get_or, min, sum, arith}
 use Rattle.std.specs.Prelude.{All, unwrap_or}
 use Rattle.std.specs.Option.{option_map}
-use Rattle.std.specs.List.{AllByRecursion, fold, list_all}
+use Rattle.std.specs.List.{AllByRecursion, list_all}
 use Rattle.std.proofs.lemmas.Option.{slice_get-get_or, slice_get-map, unwrap_or-slice_get}
 use Rattle.std.proofs.lemmas.List.{length-map}
 use Rattle.std.proofs.lemmas.List.Elements.{All-map}
@@ -22,10 +22,12 @@ use Rattle.br_flatimp.specs.WellFormed.{IsRegisterForm, IsWellFormed}
 use Rattle.br_flatten.specs.Meaning.{source_meaning, source_signature}
 use Rattle.br_flatten.specs.Sized.{IsSized, AreSized}
 use Rattle.br_deadcode.specs.LeftOut.{InPairs, MissesNoMore}
-use Rattle.br_spill.specs.Spill.{SpilledFunctions, StayLean}
+use Rattle.br_regalloc_check.specs.Assigned.{KeepLean}
+use Rattle.br_spill.specs.Spill.{Layout, AreAsLean, StayLean, buffers, spilled_function, wide_layout, wide_program}
 use Rattle.br_emit.specs.Emitted.{AreNeeds}
-use Rattle.br_compile.specs.Lowered.{IsFlat, IsInRegisters, IsLean}
-use Rattle.br_compile.proofs.Needing.{Laws, needs_within, no_recursion}
+use Rattle.br_compile.specs.Lowered.{AreSmall, HaveGrown, IsFlat, IsInRegisters, IsLean, IsSmall}
+use Rattle.br_compile.proofs.Grown.{program_grown, sum_cons}
+use Rattle.br_compile.proofs.Needing.{MeasuresAdd, needs_within, no_recursion}
 
 and-first : (a b : Bool) → (a && b) ≡ true → a ≡ true
 and-first true b e = refl
@@ -37,13 +39,6 @@ and-second false b e = absurd (cc e)
 
 both : (a b : Bool) → a ≡ true → b ≡ true → (a && b) ≡ true
 both a b e f = rw (e, f) refl
-
-fold_from : (a : ℕ) (xs : List ℕ) → fold ◌+◌ a xs ≡ a + sum xs
-fold_from a [] = omega arith
-fold_from a (x ∷ xs) = fold_from (a + x) xs ∙ (let e = fold_from (0 + x) xs in omega (arith, e))
-
-pub sum_cons : (x : ℕ) (xs : List ℕ) → sum (x ∷ xs) ≡ x + sum xs
-sum_cons x xs = fold_from (0 + x) xs ∙ omega arith
 
 -- the units of flat functions are within the bulk of the source
 units_within : (fs gs : List Func) (ps : List FlatFunc) → AreSized fs gs ps → sum (map units ps) ≤ source.bulk gs
@@ -87,23 +82,35 @@ after_pass composes fs qs ps flat formed refines kept = record {
 
 -- what the crates below say of programs
 pub record Passes : Type 0 where
-  pub sizes : Laws
-  pub bulk : (qs ps : List FlatFunc) → SpilledFunctions qs ps → flat_bulk qs ≤ 24 * sum (map units ps)
+  pub adds : MeasuresAdd
   pub bounded : (fs : List FlatFunc) (bound : ℕ → ℕ) → IsRegisterForm fs
       → ((f : ℕ) (caller : FlatFunc) → slice_get fs f ≡ Some caller → 120 + nest caller + largest (map bound (callees caller)) ≤ bound f)
       → (f : ℕ) (caller : FlatFunc) → slice_get fs f ≡ Some caller → need fs caller ≤ bound f
   pub composes : Composes
 
 pub in_registers : Passes → (fs : List Func) (ps qs : List FlatFunc) → IsSound fs → IsFlat ps fs
-    → SpilledFunctions qs ps → Refines (meaning qs) (meaning ps) → IsRegisterForm qs
+    → HaveGrown qs ps → Refines (meaning qs) (meaning ps) → IsRegisterForm qs
     → IsInRegisters qs fs
-in_registers passes fs ps qs sound flat spilled kept form = record {
+in_registers passes fs ps qs sound flat grown refines form = record {
   register_form = form;
-  refines = passes.composes (meaning qs) (meaning ps) (source_meaning fs) kept flat.refines;
-  no_recursion = no_recursion passes.sizes fs ps qs flat.sizes spilled sound.no_recursion;
-  within = needs_within passes.sizes fs ps qs flat.sizes spilled sound.no_recursion (λ bound. passes.bounded qs bound form);
-  short = omega (arith, passes.bulk qs ps spilled, units_within fs fs ps flat.sizes);
+  refines = passes.composes (meaning qs) (meaning ps) (source_meaning fs) refines flat.refines;
+  no_recursion = no_recursion passes.adds fs ps qs flat.sizes grown sound.no_recursion;
+  within = needs_within passes.adds fs ps qs flat.sizes grown sound.no_recursion (λ bound. passes.bounded qs bound form);
+  short = omega (arith, program_grown qs ps grown, units_within fs fs ps flat.sizes);
 }
+
+small_each : (fs gs : List Func) (ps : List FlatFunc) → AreSized fs gs ps → source.bulk gs ≤ 32768 → AllByRecursion IsSmall ps
+small_each fs [] [] sized few = tt
+small_each fs [] (p ∷ ps) sized few = absurd sized
+small_each fs (f ∷ gs) [] sized few = absurd sized
+small_each fs (f ∷ gs) (p ∷ ps) sized few =
+    let whole = sum_cons (source.function_bulk f) (map source.function_bulk gs) in (
+      record { units = omega (arith, sized.0.units, whole, few); names = omega (arith, sized.0.names, whole, few) },
+      small_each fs gs ps sized.1 (omega (arith, whole, few)),
+    )
+
+pub are_small : (fs : List Func) (ps : List FlatFunc) → IsFlat ps fs → source.bulk fs ≤ 32768 → AreSmall ps
+are_small fs ps flat few = record { well_formed = flat.well_formed; each = small_each fs fs ps flat.sizes few }
 
 -- ---- functions without buffers
 
@@ -120,6 +127,43 @@ lean (q ∷ qs) (p ∷ ps) stay missed dead = (
   lean qs ps stay.1 (and-second (has_no_missed p) (list_all has_no_missed ps) missed)
       (and-second (has_no_dead p) (list_all has_no_dead ps) dead),
 )
+
+-- In registers alone nothing comes to be missed or dead but copies, and new names change nothing of that.
+pub wide_lean : ((names : ℕ) → names ≤ 1048544 → (wide_layout names).slots ≡ 0)
+    → ((l : Layout) (f : FlatFunc) → l.slots ≡ 0 → buffers (spilled_function l f) ≡ buffers f)
+    → (rs ps : List FlatFunc) → AllByRecursion IsSmall ps → AreAsLean (wide_program ps) ps → KeepLean rs (wide_program ps)
+    → list_all has_no_missed ps ≡ true → list_all has_no_dead ps ≡ true → AllByRecursion IsLean rs
+wide_lean slots same [] [] small as_lean keep missed dead = tt
+wide_lean slots same [] (p ∷ ps) small as_lean keep missed dead = absurd keep
+wide_lean slots same (r ∷ rs) [] small as_lean keep missed dead = absurd keep
+wide_lean slots same (r ∷ rs) (p ∷ ps) small as_lean keep missed dead =
+    let none = same (wide_layout p.names) p (slots p.names (omega (arith, small.0.names))) in
+    let no_more : buffers (spilled_function (wide_layout p.names) p) ≤ buffers p = omega (arith, none) in (
+      record {
+        none_missed = λ _. keep.0.none_missed (as_lean.0.none_missed no_more (and-first (has_no_missed p) (list_all has_no_missed ps) missed));
+        none_dead = λ _. keep.0.none_dead_but_copies (as_lean.0.none_dead no_more (and-first (has_no_dead p) (list_all has_no_dead ps) dead));
+      },
+      wide_lean slots same rs ps small.1 as_lean.1 keep.1 (and-second (has_no_missed p) (list_all has_no_missed ps) missed)
+          (and-second (has_no_dead p) (list_all has_no_dead ps) dead),
+    )
+
+pub renamed_none_missed : (qs ps : List FlatFunc) → KeepLean qs ps → list_all has_no_missed ps ≡ true → list_all has_no_missed qs ≡ true
+renamed_none_missed [] [] keep missed = refl
+renamed_none_missed [] (p ∷ ps) keep missed = absurd keep
+renamed_none_missed (q ∷ qs) [] keep missed = absurd keep
+renamed_none_missed (q ∷ qs) (p ∷ ps) keep missed =
+    both (has_no_missed q) (list_all has_no_missed qs)
+    (keep.0.none_missed (and-first (has_no_missed p) (list_all has_no_missed ps) missed))
+    (renamed_none_missed qs ps keep.1 (and-second (has_no_missed p) (list_all has_no_missed ps) missed))
+
+pub renamed_none_dead : (qs ps : List FlatFunc) → KeepLean qs ps → list_all has_no_dead ps ≡ true → list_all has_no_dead qs ≡ true
+renamed_none_dead [] [] keep dead = refl
+renamed_none_dead [] (p ∷ ps) keep dead = absurd keep
+renamed_none_dead (q ∷ qs) [] keep dead = absurd keep
+renamed_none_dead (q ∷ qs) (p ∷ ps) keep dead =
+    both (has_no_dead q) (list_all has_no_dead qs)
+    (keep.0.none_dead (and-first (has_no_dead p) (list_all has_no_dead ps) dead))
+    (renamed_none_dead qs ps keep.1 (and-second (has_no_dead p) (list_all has_no_dead ps) dead))
 
 -- a removal leaves no operand missed where none was
 pub still-none-missed : (qs ps : List FlatFunc) → InPairs MissesNoMore qs ps → list_all has_no_missed ps ≡ true

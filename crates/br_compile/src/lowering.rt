@@ -9,10 +9,11 @@ ghost use Rattle.br_syntax.specs.declared.program.Func.{Func};
 ghost use Rattle.br_measure.specs.Faults.{IsSound};
 ghost use Rattle.br_flatimp.specs.Liveness.{has_no_dead};
 ghost use Rattle.br_flatimp.specs.Missed.{has_no_missed};
+ghost use Rattle.br_flatimp.specs.Refines.{Refines, meaning};
 ghost use Rattle.br_flatimp.specs.WellFormed.{IsWellFormed};
 ghost use Rattle.br_compile.specs.declared.refusal.Refusal.{Refusal};
 ghost use Rattle.br_compile.specs.Refusal.{most_bytes, Accepts, IsFaultOf, IsShapeRefusal, IsNameRefusal};
-ghost use Rattle.br_compile.specs.Lowered.{IsFlat, IsInRegisters, IsLean, IsLowered};
+ghost use Rattle.br_compile.specs.Lowered.{AreSmall, HaveGrown, IsFlat, IsInRegisters, IsLean, IsLowered};
 
 use crate::refusal::Refusal;
 use br_base::{NoMemory, OrMemory};
@@ -23,9 +24,12 @@ use br_immediates::use_immediates;
 use br_live::names_are_below;
 use br_measure::{Checked, check, measures_add_up, sound_programs_have_no_fault};
 use br_regalloc_check::assign;
-use br_regalloc_propose::propose;
+use br_regalloc_propose::{propose, propose_registers};
 use br_sexpr::{Tree, one_answer, read};
-use br_spill::{layouts_fit, spill, spilled_functions_keep_sizes};
+use br_spill::{
+    is_in_register_form, layouts_fit, pass_in_registers, spill, spilled_functions_keep_sizes,
+    wide_layouts_fit,
+};
 use br_stack_need::{needs, needs_are_bounded};
 use br_syntax::{Program, from_tree};
 use sqlite_items::Items;
@@ -83,6 +87,8 @@ fn lowered_program(alloc: Global, program: &Checked) -> Result<Lowered, NoMemory
     })
 }
 
+// Registers alone are tried first. Where a function needs more of them than there are, the names of all
+// functions become few by another way, and those past the registers words of a buffer.
 fn in_registers(alloc: Global, program: &Checked) -> Result<FlatProgram, NoMemory>
     ensures lowered { IfOk result (λ q. IsInRegisters q.funcs program.now) }
     ensures lean { IfOk result (λ q. AllByRecursion IsLean q.funcs) }
@@ -93,26 +99,46 @@ fn in_registers(alloc: Global, program: &Checked) -> Result<FlatProgram, NoMemor
     spilled_functions_keep_sizes();
     refines_composes();
     let _source = program.program();
-    let flat = flat_program(alloc, program)?;
-    let spilled = spill(alloc, flat)?;
+    let first = flatten(alloc, program)?;
+    let flat = lean_program(alloc, first)?;
+    let alone = with_registers(alloc, &flat)?;
+    if is_in_register_form(&alone) {
+        return Ok(alone);
+    }
+    let named = with_few_names(alloc, flat)?;
+    let spilled = spill(alloc, named)?;
     Ok(spilled)
 }
 
-// The flat program whose functions have the names that are proposed, each where it may. What is lean
-// before it takes new names is made lean once more, since two names may have become one.
-fn flat_program(alloc: Global, program: &Checked) -> Result<FlatProgram, NoMemory>
-    ensures flat { IfOk result (λ q. IsFlat q.funcs program.now) }
-    ensures none_missed { IfOk result (λ q. IsTrue (list_all has_no_missed q.funcs)) }
-    ensures none_dead { IfOk result (λ q. IsTrue (list_all has_no_dead q.funcs)) }
+// The program whose words are passed in registers, and whose names are then those registers that are
+// proposed, in each function where it may take them.
+fn with_registers(alloc: Global, p: &FlatProgram) -> Result<FlatProgram, NoMemory>
+    requires small { AreSmall p.now.funcs }
+    ensures well_formed { IfOk result (λ q. IsWellFormed q.funcs) }
+    ensures refines { IfOk result (λ q. Refines (meaning q.funcs) (meaning p.now.funcs)) }
+    ensures grown { IfOk result (λ q. HaveGrown q.funcs p.now.funcs) }
+    ensures lean { IfOk result (λ q. IsTrue (list_all has_no_missed p.now.funcs) → IsTrue (list_all has_no_dead p.now.funcs) → AllByRecursion IsLean q.funcs) }
+{
+    wide_layouts_fit();
+    spilled_functions_keep_sizes();
+    refines_composes();
+    let wide = pass_in_registers(alloc, p)?;
+    let proposals = propose_registers(alloc, &wide)?;
+    let named = assign(alloc, wide, proposals.as_slice())?;
+    Ok(named)
+}
+
+// The flat program whose functions have the names that are proposed, each where it may.
+fn with_few_names(alloc: Global, p: FlatProgram) -> Result<FlatProgram, NoMemory>
+    requires small { AreSmall p.funcs }
+    ensures flat { IfOk result (λ q. (fs : List Func) → IsFlat p.funcs fs → IsFlat q.funcs fs) }
+    ensures none_missed { IfOk result (λ q. IsTrue (list_all has_no_missed p.funcs) → IsTrue (list_all has_no_missed q.funcs)) }
+    ensures none_dead { IfOk result (λ q. IsTrue (list_all has_no_dead p.funcs) → IsTrue (list_all has_no_dead q.funcs)) }
 {
     refines_composes();
-    let _source = program.program();
-    let first = flatten(alloc, program)?;
-    let small = lean_program(alloc, first)?;
-    let proposals = proposals_for(alloc, small.funcs.as_slice())?;
-    let named = assign(alloc, small, proposals.as_slice())?;
-    let lean = lean_program(alloc, named)?;
-    Ok(lean)
+    let proposals = proposals_for(alloc, p.funcs.as_slice())?;
+    let named = assign(alloc, p, proposals.as_slice())?;
+    Ok(named)
 }
 
 // What is proposed for each function.

@@ -1,6 +1,6 @@
-//! Reads a source text and prints its flat program after flattening and after each pass that makes it
-//! smaller, and then what `lower` makes of it, one statement a line. For those who work on the passes:
-//! the program `brc` has no word for it.
+//! Reads a source text and prints its flat program after flattening, after each pass that makes it smaller
+//! and after words are passed in registers, and then what `lower` makes of it, one statement a line. For
+//! those who work on the passes: the program `brc` has no word for it.
 #![tactic(auto)]
 
 mod statements;
@@ -14,6 +14,7 @@ use br_flatten::flatten;
 use br_immediates::use_immediates;
 use br_measure::{Checked, check};
 use br_sexpr::read;
+use br_spill::pass_in_registers;
 use br_syntax::from_tree;
 use statements::write_function;
 use std::alloc::Global;
@@ -35,6 +36,10 @@ fn main(rt: HostRuntime) -> Result<()> {
         bail!("no memory");
     };
     show(&rt, "remove dead", 'n', &flat)?;
+    let Ok(flat) = pass_in_registers(rt.alloc(), &flat) else {
+        bail!("no memory");
+    };
+    show(&rt, "pass in registers", 'x', &flat)?;
     let Ok(lowered) = lower(rt.alloc(), &text) else {
         bail!("no memory");
     };
