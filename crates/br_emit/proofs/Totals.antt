@@ -72,7 +72,7 @@ copy_most x y = by (x == y) refl
     by true e = rw e (omega arith)
     by false e = rw e (omega arith)
 
-op_most : (x : ℕ) (o : BinOp) (y : ℕ) (z : Operand) → length (op_items x o y z) ≤ 2
+pub op_most : (x : ℕ) (o : BinOp) (y : ℕ) (z : Operand) → length (op_items x o y z) ≤ 2
 op_most x op.Add y (operand.Name b) = omega arith
 op_most x op.Sub y (operand.Name b) = omega arith
 op_most x op.Mul y (operand.Name b) = omega arith

@@ -4,12 +4,18 @@
 use crate::CodeBuffer;
 use crate::code::Code;
 use crate::constant_tables::table;
+use crate::forgotten::find_forgotten;
 use crate::framing::{entry, exit, move_stack, open, save};
 use crate::jumps::{back_words, call, if_head, if_middle, loop_back, loop_head, over, over_words};
+use crate::registers::{Registers, saved};
+use crate::sets::EVERY;
 use crate::straight::{constant, copy, load_op, operation, place, store_op};
-use br_flatimp::{Cond, Operand, Rel};
+use br_base::Name;
+use br_flatimp::{Cond, FlatFunc, Operand, Rel, Stmt};
 use br_rv32im::Ins;
 use br_words::{BinOp, Size};
+use sqlite_items::Items;
+use std::alloc::Global;
 use std::test::Fail;
 
 #[test]
@@ -50,24 +56,69 @@ fn constants(rt: HostRuntime) -> Result<(), Fail> {
 }
 
 #[test]
-fn operations(rt: HostRuntime) -> Result<(), Fail> {
+#[tactic(auto, using(crate::proofs::Totals::op_most))]
+fn operations_on_two_registers(rt: HostRuntime) -> Result<(), Fail> {
+    for (op, word) in [
+        // add x5, x6, x7, and so on
+        (BinOp::Add, 0x007302b3),
+        (BinOp::Sub, 0x407302b3),
+        (BinOp::Mul, 0x027302b3),
+        (BinOp::Mulhuu, 0x027332b3),
+        (BinOp::Divu, 0x027352b3),
+        (BinOp::Remu, 0x027372b3),
+        (BinOp::And, 0x007372b3),
+        (BinOp::Or, 0x007362b3),
+        (BinOp::Xor, 0x007342b3),
+        (BinOp::Sru, 0x007352b3),
+        (BinOp::Slu, 0x007312b3),
+        (BinOp::Srs, 0x407352b3),
+        (BinOp::Lts, 0x007322b3),
+        (BinOp::Ltu, 0x007332b3),
+    ] {
+        let mut code = Code::with_room(rt.alloc(), 2)?;
+        operation(&mut code, 5, op, 6, Operand::Name(7));
+        assert_eq!(rt; code.words(), [word].as_slice());
+    }
+    Ok(())
+}
+
+#[test]
+fn copies_and_operations_with_numbers(rt: HostRuntime) -> Result<(), Fail> {
     let mut code = Code::with_room(rt.alloc(), 16)?;
     // addi x5, x6, 0
     copy(&mut code, 5, 6);
     // nothing
     copy(&mut code, 5, 5);
-    // sltu x5, x6, x7
-    operation(&mut code, 5, BinOp::Ltu, 6, Operand::Name(7));
     // sub x5, x6, x7; sltiu x5, x5, 1
     operation(&mut code, 5, BinOp::Eq, 6, Operand::Name(7));
+    // xori x5, x6, -7; sltiu x5, x5, 1
+    operation(&mut code, 5, BinOp::Eq, 6, Operand::Const(-7));
+    // addi x5, x6, 2047
+    operation(&mut code, 5, BinOp::Add, 6, Operand::Const(2047));
     // addi x5, x6, -2048
     operation(&mut code, 5, BinOp::Sub, 6, Operand::Const(2048));
+    // andi x5, x6, -1
+    operation(&mut code, 5, BinOp::And, 6, Operand::Const(-1));
+    // ori x5, x6, -2048
+    operation(&mut code, 5, BinOp::Or, 6, Operand::Const(-2048));
+    // xori x5, x6, 2047
+    operation(&mut code, 5, BinOp::Xor, 6, Operand::Const(2047));
+    // srli x5, x6, 31
+    operation(&mut code, 5, BinOp::Sru, 6, Operand::Const(31));
+    // slli x5, x6, 1
+    operation(&mut code, 5, BinOp::Slu, 6, Operand::Const(1));
     // srai x5, x6, 31
     operation(&mut code, 5, BinOp::Srs, 6, Operand::Const(31));
+    // slti x5, x6, -5
+    operation(&mut code, 5, BinOp::Lts, 6, Operand::Const(-5));
+    // sltiu x5, x6, -1
+    operation(&mut code, 5, BinOp::Ltu, 6, Operand::Const(-1));
     assert_eq!(rt;
         code.words(),
         [
-            0x00030293, 0x007332b3, 0x407302b3, 0x0012b293, 0x80030293, 0x41f35293,
+            0x00030293, 0x407302b3, 0x0012b293, 0xff934293, 0x0012b293, 0x7ff30293, 0x80030293,
+            0xfff37293, 0x80036293, 0x7ff34293, 0x01f35293, 0x00131293, 0x41f35293, 0xffb32293,
+            0xfff33293,
         ]
         .as_slice()
     );
@@ -77,10 +128,14 @@ fn operations(rt: HostRuntime) -> Result<(), Fail> {
 #[test]
 fn accesses(rt: HostRuntime) -> Result<(), Fail> {
     let mut code = Code::with_room(rt.alloc(), 16)?;
-    // lbu x5, -1(x6)
+    // lbu x5, -1(x6); lhu x5, 2(x6); lw x5, -2048(x6)
     code.put(Ins::Load(load_op(Size::One), 5, 6, -1));
-    // sh x6, 2047(x5)
+    code.put(Ins::Load(load_op(Size::Two), 5, 6, 2));
+    code.put(Ins::Load(load_op(Size::Four), 5, 6, -2048));
+    // sb x6, 1(x5); sh x6, 2047(x5); sw x6, -2048(x5)
+    code.put(Ins::Store(store_op(Size::One), 5, 6, 1));
     code.put(Ins::Store(store_op(Size::Two), 5, 6, 2047));
+    code.put(Ins::Store(store_op(Size::Four), 5, 6, -2048));
     // addi x5, sp, 2032
     place(&mut code, 5, 2032);
     // lui x5, 1; addi x5, x5, -2048; add x5, x5, sp
@@ -90,8 +145,8 @@ fn accesses(rt: HostRuntime) -> Result<(), Fail> {
     assert_eq!(rt;
         code.words(),
         [
-            0xfff34283, 0x7e629fa3, 0x7f010293, 0x000012b7, 0x80028293, 0x002282b3, 0x000102b7,
-            0x002282b3,
+            0xfff34283, 0x00235283, 0x80032283, 0x006280a3, 0x7e629fa3, 0x8062a023, 0x7f010293,
+            0x000012b7, 0x80028293, 0x002282b3, 0x000102b7, 0x002282b3,
         ]
         .as_slice()
     );
@@ -230,5 +285,85 @@ fn stack_pointer_moves(rt: HostRuntime) -> Result<(), Fail> {
         ]
         .as_slice()
     );
+    Ok(())
+}
+
+fn function(alloc: Global, name: &str, body: Items<Stmt>) -> Result<FlatFunc, Fail> {
+    Ok(FlatFunc {
+        name: Name::from_bytes(Vec::from_slice(alloc, name.as_bytes())?).ok_or("no name")?,
+        args: Items::from_slice(alloc, &[10])?,
+        results: Items::from_slice(alloc, &[10])?,
+        names: 32,
+        body,
+    })
+}
+
+fn call_of(alloc: Global, g: u32) -> Result<Stmt, Fail> {
+    Ok(Stmt::Call(
+        Items::from_slice(alloc, &[10])?,
+        g,
+        Items::from_slice(alloc, &[10])?,
+    ))
+}
+
+// What the function of a number saves.
+fn saved_by(funcs: &[FlatFunc], sets: &[u32], n: usize) -> Result<Registers, Fail> {
+    let f = funcs.get(n).ok_or("no function")?;
+    Ok(saved(sets, n, f))
+}
+
+// The caller needs x4 after the call in each turn of its loop, and x3 before it alone.
+#[test]
+fn a_function_saves_what_its_caller_needs(rt: HostRuntime) -> Result<(), Fail> {
+    let alloc = rt.alloc();
+    let mut body = Items::new(alloc);
+    body.push(Stmt::Op(3, BinOp::Add, 10, Operand::Name(10)))?;
+    body.push(Stmt::Lit(4, 7))?;
+    body.push(Stmt::Op(10, BinOp::Add, 3, Operand::Name(4)))?;
+    let mut turn = Items::new(alloc);
+    turn.push(Stmt::Op(10, BinOp::Add, 3, Operand::Name(4)))?;
+    turn.push(call_of(alloc, 0)?)?;
+    turn.push(Stmt::Op(4, BinOp::Sub, 4, Operand::Const(1)))?;
+    turn.push(Stmt::Lit(3, 2))?;
+    let mut caller = Items::new(alloc);
+    caller.push(Stmt::Lit(3, 1))?;
+    caller.push(Stmt::Lit(4, 9))?;
+    caller.push(Stmt::Loop(Items::new(alloc), Cond::NonZero(4), turn))?;
+    let mut funcs = Items::new(alloc);
+    funcs.push(function(alloc, "callee", body)?)?;
+    funcs.push(function(alloc, "caller", caller)?)?;
+    let mut sets = [EVERY; 2];
+    find_forgotten(&mut sets, funcs.as_slice());
+    let callee = saved_by(funcs.as_slice(), &sets, 0)?;
+    assert_eq!(rt; callee.as_slice(), [4].as_slice());
+    let caller = saved_by(funcs.as_slice(), &sets, 1)?;
+    assert_eq!(rt; caller.as_slice(), [].as_slice());
+    Ok(())
+}
+
+// The last function needs x5 after a call of the one between, which has no such name: so the first saves it.
+#[test]
+fn a_function_saves_what_callers_of_its_caller_need(rt: HostRuntime) -> Result<(), Fail> {
+    let alloc = rt.alloc();
+    let mut leaf = Items::new(alloc);
+    leaf.push(Stmt::Lit(5, 7))?;
+    leaf.push(Stmt::Lit(6, 7))?;
+    let mut between = Items::new(alloc);
+    between.push(Stmt::Lit(6, 1))?;
+    between.push(call_of(alloc, 0)?)?;
+    let mut last = Items::new(alloc);
+    last.push(Stmt::Lit(5, 1))?;
+    last.push(call_of(alloc, 1)?)?;
+    last.push(Stmt::Copy(10, 5))?;
+    let mut funcs = Items::new(alloc);
+    funcs.push(function(alloc, "leaf", leaf)?)?;
+    funcs.push(function(alloc, "between", between)?)?;
+    funcs.push(function(alloc, "last", last)?)?;
+    let mut sets = [EVERY; 3];
+    find_forgotten(&mut sets, funcs.as_slice());
+    let leaf = saved_by(funcs.as_slice(), &sets, 0)?;
+    assert_eq!(rt; leaf.as_slice(), [5].as_slice());
+    let between = saved_by(funcs.as_slice(), &sets, 1)?;
+    assert_eq!(rt; between.as_slice(), [].as_slice());
     Ok(())
 }
