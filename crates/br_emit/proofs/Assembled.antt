@@ -18,7 +18,7 @@ use Rattle.br_bytes.specs.Buffers.{AreWords}
 use Rattle.br_machine.specs.Start.{Leftover, IsLeftover, IsInData}
 use Rattle.br_machine.specs.State.{MachineState, IsMachine}
 use Rattle.br_machine.specs.Step.{step}
-use Rattle.br_emit.specs.Code.{Item, item_word, entry_place, AllFit, Targets, written_names, changes, is_called, saved_bytes, callable_items, entry_items, direct_items, function_items, program_items, places}
+use Rattle.br_emit.specs.Code.{Item, item_word, words_at, entry_place, AllFit, Targets, written_names, changes, is_called, saved_bytes, callable_items, entry_items, direct_items, function_items, program_items, places}
 use Rattle.br_emit.specs.Laid.{Placed, is_fine, may_call, Function, Laid, callee_need, IsCodeOf, EntryShown}
 use Rattle.br_emit.proofs.Stepping.{Table}
 use Rattle.br_emit.proofs.Pieces.{placed-front, placed-back}
@@ -32,18 +32,20 @@ get_after : {X : Type 0} (xs ys : List X) (i : ℕ) → slice_get (xs ++ ys) (le
 get_after [] ys i = let same : 0 + i ≡ i = omega arith in ap (slice_get ys) same
 get_after (x ∷ xs) ys i = let same : suc (length xs) + i ≡ suc (length xs + i) = omega arith in ap (slice_get (x ∷ (xs ++ ys))) same ∙ get_after xs ys i
 
-placed_from : (before : List ℕ) (items : List Item) → AllFit items → Placed (before ++ map item_word items) (length before) items
+placed_from : (before : List ℕ) (items : List Item) → AllFit items → Placed (before ++ words_at (length before) items) (length before) items
 placed_from before [] fit = tt
 placed_from before (i ∷ items) fit =
-    let here : length before ≡ length before + 0 = omega arith in
-    let whole : (before ++ item_word i ∷ []) ++ map item_word items ≡ before ++ map item_word (i ∷ items) = append_assoc before (item_word i ∷ []) (map item_word items) in
-    let size : length (before ++ item_word i ∷ []) ≡ length before + 1 = length-append before (item_word i ∷ []) in (
-      ap (slice_get (before ++ map item_word (i ∷ items))) here ∙ get_after before (map item_word (i ∷ items)) 0,
+    let n = length before in
+    let here : n ≡ n + 0 = omega arith in
+    let more = before ++ item_word n i ∷ [] in
+    let size : length more ≡ n + 1 = length-append before (item_word n i ∷ []) in
+    let whole : more ++ words_at (length more) items ≡ before ++ words_at n (i ∷ items) = ap (λ q. more ++ words_at q items) size ∙ append_assoc before (item_word n i ∷ []) (words_at (n + 1) items) in (
+      ap (slice_get (before ++ words_at n (i ∷ items))) here ∙ get_after before (words_at n (i ∷ items)) 0,
       fit.0,
-      subst (λ n. Placed (before ++ map item_word (i ∷ items)) n items) size (subst (λ c. Placed c (length (before ++ item_word i ∷ [])) items) whole (placed_from (before ++ item_word i ∷ []) items fit.1)),
+      subst (λ q. Placed (before ++ words_at n (i ∷ items)) q items) size (subst (λ c. Placed c (length more) items) whole (placed_from more items fit.1)),
     )
 
-pub all_placed : (code : List ℕ) (items : List Item) → code ≡ map item_word items → AllFit items → Placed code 0 items
+pub all_placed : (code : List ℕ) (items : List Item) → code ≡ words_at 0 items → AllFit items → Placed code 0 items
 all_placed code items is fit = subst (λ c. Placed c 0 items) (sym is) (placed_from [] items fit)
 
 -- the code of each function
@@ -390,13 +392,13 @@ function_laid fs targets forgets need code is n f there =
     }
   where
     stands : Placed code 0 (program_items targets forgets fs 0 fs) → ((place : ℕ) × (slice_get (places targets forgets fs 0 0 fs) n ≡ Some place)) → is_called fs n ≡ true
-        → (place : ℕ) × (targets n ≡ 0x80300000 + 4 * place) × Placed code place (callable_items targets forgets n f)
+        → (place : ℕ) × (targets.at n ≡ 0x80300000 + 4 * place) × Placed code place (callable_items targets forgets n f)
     stands placed (place, at_is) called =
         let here = function_placed code targets forgets fs 0 0 fs placed n place f there at_is in
         let number : 0 + n ≡ n = omega arith in
         let here2 = subst (λ q. Placed code place (function_items targets forgets fs q f)) number here in
-        let here3 = subst (λ t. Placed code place (if t then callable_items targets forgets n f ++ entry_items (targets n) else direct_items targets f)) called here2 in
-        (place, is.aimed n place at_is, placed-front code place (callable_items targets forgets n f) (entry_items (targets n)) here3)
+        let here3 = subst (λ t. Placed code place (if t then callable_items targets forgets n f ++ entry_items targets.near (targets.at n) else direct_items targets f)) called here2 in
+        (place, is.aimed n place at_is, placed-front code place (callable_items targets forgets n f) (entry_items targets.near (targets.at n)) here3)
 
 -- ---- entries
 
@@ -428,6 +430,7 @@ function_shown t steps fs targets forgets need code is n f place there at_is les
       low = low;
       total = flat_bulk fs - 16;
       bottom = omega arith;
+      reach = is.reach;
       functions = function_laid fs targets forgets need code is;
     }
 
@@ -449,13 +452,13 @@ function_shown t steps fs targets forgets need code is n f place there at_is les
     by : (b : Bool) → is_called fs n ≡ b → Shown (if is_called fs n then place + length (callable_items targets forgets n f) else place)
     by true called =
         let room : low + need n ≤ 0x80300000 = omega arith in
-        let here2 = subst (λ b. Placed code place (if b then callable_items targets forgets n f ++ entry_items (targets n) else direct_items targets f)) called here in
-        let entry = placed-back code place (callable_items targets forgets n f) (entry_items (targets n)) here2 in
+        let here2 = subst (λ b. Placed code place (if b then callable_items targets forgets n f ++ entry_items targets.near (targets.at n) else direct_items targets f)) called here in
+        let entry = placed-back code place (callable_items targets forgets n f) (entry_items targets.near (targets.at n)) here2 in
         subst (λ b. Shown (if b then place + length (callable_items targets forgets n f) else place)) (sym called)
         (called_shown (world laid t steps) n f (place + length (callable_items targets forgets n f)) (flat_bulk fs) (need n) fuel there called entry is.few room pays refl args count words m data_is answers words' j left)
     by false called =
         let needed = needs in
         let room : low + nest f + callee_need fs need n ≤ 0x80300000 = omega (arith, needed) in
-        let here2 = subst (λ b. Placed code place (if b then callable_items targets forgets n f ++ entry_items (targets n) else direct_items targets f)) called here in
+        let here2 = subst (λ b. Placed code place (if b then callable_items targets forgets n f ++ entry_items targets.near (targets.at n) else direct_items targets f)) called here in
         subst (λ b. Shown (if b then place + length (callable_items targets forgets n f) else place)) (sym called)
         (direct_shown (world laid t steps) n f place (flat_bulk fs) (need n) fuel there here2 is.few room pays refl args count words m data_is answers words' j left)

@@ -111,6 +111,15 @@ same_anywhere registers registers4 y all all4 same = by (nat_le y 31) refl
         let far : 32 ≤ y = grind (arith, nat_tests) in
         reads_beyond registers4 y all4 far ∙ sym (reads_beyond registers y all far)
 
+-- a call stands in the code
+call_within : (code : List ℕ) (near : Bool) (target j : ℕ) → Placed code j (call_items near target) → j < length code
+call_within code true target j placed = within_code code j _ placed.0
+call_within code false target j placed = within_code code j _ placed.0
+
+call_short : (near : Bool) (target : ℕ) → length (call_items near target) ≤ 2
+call_short true target = omega arith
+call_short false target = omega arith
+
 -- what is fixed of a call from the function n to the function h
 pub record Site (w : World) (n : ℕ) (f : FlatFunc) (sp : ℕ) (xs ys : List ℕ) (h : ℕ) (c : FlatFunc) : Type 0 where
   pub under : w.low ≤ sp
@@ -204,7 +213,7 @@ parts code targets forgets h place c placed =
 record Inside (w : World) (n : ℕ) (f : FlatFunc) (sp : ℕ) (xs ys : List ℕ) (h : ℕ) (c : FlatFunc) (d : ℕ) (site : Site w n f sp xs ys h c) (j k : ℕ) (s : State) (registers ram vs : List ℕ) : Type 0 where
   place : ℕ
   parts_of : Parts w.code w.targets w.forgets h place c
-  leap : Leaps (ground w n f (suc d) sp site.under site.top site.four) j place registers ram s.answers s.trace
+  leap : Leaps (ground w n f (suc d) sp site.under site.top site.four) j (j + length (call_items w.targets.near (w.targets.at h))) place registers ram s.answers s.trace
   opened : Opened (ground w n f (suc d) sp site.under site.top site.four) place parts_of.start sp (saved_bytes w.forgets h c) (nest c) (saves w.forgets h c) leap.registers' ram s.answers s.trace
   run : Shown (inner w n f sp xs ys h c d site) (in_turn (map (flat.run w.forgets (function_of w.forgets w.fs d)) c.body)) (record s { locals = with_locals c.args vs no_locals; fuel = k })
       (at w.code parts_of.start opened.registers' opened.ram' s.answers s.trace) opened.ram' (sp - saved_bytes w.forgets h c) (parts_of.start + length (all_items w.targets c.body (nest c))) (sum (map statement_bulk c.body))
@@ -212,7 +221,7 @@ record Inside (w : World) (n : ℕ) (f : FlatFunc) (sp : ℕ) (xs ys : List ℕ)
 enters : (w : World) (n : ℕ) (f : FlatFunc) (sp : ℕ) (xs ys : List ℕ) (h : ℕ) (c : FlatFunc) (d : ℕ) (site : Site w n f sp xs ys h c) → CallsAt w d
     → (free j k : ℕ) (s : State) (registers ram vs : List ℕ)
     → sp + free ≤ 0x80300000 → k ≤ d → words_of ys s.locals ≡ Some vs
-    → Placed w.code j (call_items (w.targets h)) → Ready w.code registers ram s.answers j → Stands (sp + free) sp s registers ram
+    → Placed w.code j (call_items w.targets.near (w.targets.at h)) → Ready w.code registers ram s.answers j → Stands (sp + free) sp s registers ram
     → Inside w n f sp xs ys h c d site j k s registers ram vs
 enters w n f sp xs ys h c d site again free j k s registers ram vs inside deep words placed ready stands =
     let g = ground w n f (suc d) sp site.under site.top site.four in
@@ -222,10 +231,10 @@ enters w n f sp xs ys h c d site again free j k s registers ram vs inside deep w
     let ps = parts w.code w.targets w.forgets h place c where_to.2 in
     let good = good_of w.code registers ram s.answers j ready in
     let few = good.few in
-    let j_in = within_code w.code j _ placed.0 in
+    let j_in = call_within w.code w.targets.near (w.targets.at h) j placed in
     let place_in = within_code w.code place _ where_to.2.0 in
-    let leap = leaps g j place (w.targets h) registers ram s.answers s.trace good placed where_to.1 (omega (arith, where_to.1)) (omega arith) in
-    let ready1 = ready_runs g registers ram s.answers leap.registers' ram s.answers s.trace s.trace j place 2 ready leap.runs in
+    let leap = leaps g w.targets.near j place (w.targets.at h) registers ram s.answers s.trace good placed where_to.1 (omega (arith, where_to.1)) (omega arith) w.reach j_in place_in in
+    let ready1 = ready_runs g registers ram s.answers leap.registers' ram s.answers s.trace s.trace j place leap.steps ready leap.runs in
     let saved = filter_rises (is_saved w.forgets h c) 3 29 in
     let pointer1 : reads leap.registers' 2 ≡ sp = leap.others 2 (omega arith) ∙ stands.pointer in
     let needs = fn.needs in
@@ -324,9 +333,9 @@ returns_to xs outer results t (Some ws) e = rw e refl
 pub call_shown : (w : World) (n : ℕ) (f : FlatFunc) (sp : ℕ) (xs ys : List ℕ) (h : ℕ) (c : FlatFunc) (d : ℕ) (site : Site w n f sp xs ys h c) → CallsAt w d
     → (free j k : ℕ) (s : State) (registers ram vs : List ℕ)
     → sp + free ≤ 0x80300000 → k ≤ d → words_of ys s.locals ≡ Some vs
-    → Placed w.code j (call_items (w.targets h)) → Ready w.code registers ram s.answers j → Stands (sp + free) sp s registers ram
+    → Placed w.code j (call_items w.targets.near (w.targets.at h)) → Ready w.code registers ram s.answers j → Stands (sp + free) sp s registers ram
     → Shown (ground w n f (suc d) sp site.under site.top site.four) (statement_step w.forgets (function_of w.forgets w.fs (suc d)) (Stmt-F.Call xs h ys)) (record s { fuel = suc k })
-    (at w.code j registers ram s.answers s.trace) ram (sp + free) (j + 2) 2
+    (at w.code j registers ram s.answers s.trace) ram (sp + free) (j + length (call_items w.targets.near (w.targets.at h))) 2
 call_shown w n f sp xs ys h c d site again free j k s registers ram vs inside deep words placed ready stands =
     let i = enters w n f sp xs ys h c d site again free j k s registers ram vs inside deep words placed ready stands in
     by i.place i.parts_of i.leap i.opened i.run
@@ -363,12 +372,12 @@ call_shown w n f sp xs ys h c d site again free j k s registers ram vs inside de
         more d t = grind arith
 
     by : (place : ℕ) (ps : Parts w.code w.targets w.forgets h place c)
-        → (leap : Leaps (ground w n f (suc d) sp site.under site.top site.four) j place registers ram s.answers s.trace)
+        → (leap : Leaps (ground w n f (suc d) sp site.under site.top site.four) j (j + length (call_items w.targets.near (w.targets.at h))) place registers ram s.answers s.trace)
         → (opened : Opened (ground w n f (suc d) sp site.under site.top site.four) place ps.start sp (saved_bytes w.forgets h c) (nest c) (saves w.forgets h c) leap.registers' ram s.answers s.trace)
         → Shown (inner w n f sp xs ys h c d site) (in_turn (map (flat.run w.forgets (function_of w.forgets w.fs d)) c.body)) (record s { locals = with_locals c.args vs no_locals; fuel = k })
         (at w.code ps.start opened.registers' opened.ram' s.answers s.trace) opened.ram' (sp - saved_bytes w.forgets h c) (ps.start + length (all_items w.targets c.body (nest c))) (sum (map statement_bulk c.body))
         → Shown (ground w n f (suc d) sp site.under site.top site.four) (statement_step w.forgets (function_of w.forgets w.fs (suc d)) (Stmt-F.Call xs h ys)) (record s { fuel = suc k })
-        (at w.code j registers ram s.answers s.trace) ram (sp + free) (j + 2) 2
+        (at w.code j registers ram s.answers s.trace) ram (sp + free) (j + length (call_items w.targets.near (w.targets.at h))) 2
     by place ps leap opened (Wrong b) = Wrong (record {
       choices = b.choices;
       chosen = b.chosen;
@@ -383,6 +392,7 @@ call_shown w n f sp xs ys h c d site again free j k s registers ram vs inside de
         let short = saved.2 in
         let few = opened.few in
         let some = opened.some in
+        let few_leap = leap.few in
         let needs = fn.needs in
         Out (record {
           choices = b.choices;
@@ -395,19 +405,19 @@ call_shown w n f sp xs ys h c d site again free j k s registers ram vs inside de
           registers = b.registers;
           ram' = b.ram';
           place = b.place;
-          steps = 2 + opened.steps + b.steps;
-          runs = runs-append w.low (2 + opened.steps) b.steps (at w.code j registers ram s.answers s.trace) (at w.code ps.start opened.registers' opened.ram' s.answers s.trace) (at w.code b.place b.registers b.ram' b.after.answers b.after.trace)
-              (runs-append w.low 2 opened.steps (at w.code j registers ram s.answers s.trace) (at w.code place leap.registers' ram s.answers s.trace) (at w.code ps.start opened.registers' opened.ram' s.answers s.trace) leap.runs opened.runs) b.runs;
+          steps = leap.steps + opened.steps + b.steps;
+          runs = runs-append w.low (leap.steps + opened.steps) b.steps (at w.code j registers ram s.answers s.trace) (at w.code ps.start opened.registers' opened.ram' s.answers s.trace) (at w.code b.place b.registers b.ram' b.after.answers b.after.trace)
+              (runs-append w.low leap.steps opened.steps (at w.code j registers ram s.answers s.trace) (at w.code place leap.registers' ram s.answers s.trace) (at w.code ps.start opened.registers' opened.ram' s.answers s.trace) leap.runs opened.runs) b.runs;
           bytes = b.bytes;
           kept = kept_above (sp + free) (sp - saved_bytes w.forgets h c) s.memory b.after.memory ram opened.ram' b.ram' (omega arith) b.kept (same_below (sp - saved_bytes w.forgets h c) opened.ram' refl opened.bytes_stay);
-          paced = pace (record s { locals = with_locals c.args vs no_locals; fuel = k }) b.after 0 (2 + opened.steps) b.steps 0 refl (omega arith) (omega arith) fn.bulk b.paced;
+          paced = pace (record s { locals = with_locals c.args vs no_locals; fuel = k }) b.after 0 (leap.steps + opened.steps) b.steps 0 refl (omega arith) (omega arith) fn.bulk b.paced;
           shown = b.shown;
         })
     by place ps leap opened (On b) = results (words_of c.results b.after.locals) refl
       where
         results : (o : Option (List ℕ)) → words_of c.results b.after.locals ≡ o
             → Shown (ground w n f (suc d) sp site.under site.top site.four) (statement_step w.forgets (function_of w.forgets w.fs (suc d)) (Stmt-F.Call xs h ys)) (record s { fuel = suc k })
-            (at w.code j registers ram s.answers s.trace) ram (sp + free) (j + 2) 2
+            (at w.code j registers ram s.answers s.trace) ram (sp + free) (j + length (call_items w.targets.near (w.targets.at h))) 2
         results None e = Wrong (record {
           choices = b.choices;
           chosen = b.chosen;
@@ -426,6 +436,7 @@ call_shown w n f sp xs ys h c d site again free j k s registers ram vs inside de
             let short = saved.2 in
             let few = opened.few in
             let some = opened.some in
+            let few_leap = leap.few in
             let needs = fn.needs in
             let room = site.room in
             let bottom = w.bottom in
@@ -435,21 +446,22 @@ call_shown w n f sp xs ys h c d site again free j k s registers ram vs inside de
             let good3 = good_of w.code b.registers b.ram' b.after.answers last b.ready in
             let stays : (q : ℕ) → sp - bytes ≤ q → q < sp → slice_index b.ram' (q - 0x80100000) ≡ slice_index opened.ram' (q - 0x80100000) =
             λ q from to. (let apart : Apart (sp - bytes) q = (omega arith, (let top = site.top in omega arith), inr from) in b.kept.stays q apart (b.kept.fresh q apart (nothing_there q (omega arith) to))) in
-            let near : j + 2 < 2000000 = (let good = good_of w.code registers ram s.answers j ready in let most = good.few in let here = within_code w.code j _ placed.0 in omega arith) in
-            let back : word_at b.ram' (sp - bytes) ≡ 0x80300000 + 4 * (j + 2) =
+            let next = j + length (call_items w.targets.near (w.targets.at h)) in
+            let near : next < 2000000 = (let good = good_of w.code registers ram s.answers j ready in let most = good.few in let here = call_within w.code w.targets.near (w.targets.at h) j placed in let short = call_short w.targets.near (w.targets.at h) in omega arith) in
+            let back : word_at b.ram' (sp - bytes) ≡ 0x80300000 + 4 * next =
             word_same opened.ram' b.ram' (sp - bytes) (omega arith) (λ q from to. stays q from (omega arith)) ∙ opened.back ∙ leap.back in
-            let closed = closes g last (j + 2) sp (nest c) rs b.registers b.ram' b.after.answers b.after.trace good3 saved.0 saved.1 saved.2 ps.after b.stands.pointer site.top (omega arith) back near in
+            let closed = closes g last next sp (nest c) rs b.registers b.ram' b.after.answers b.after.trace good3 saved.0 saved.1 saved.2 ps.after b.stands.pointer site.top (omega arith) back near in
             let stored3 : Stored leap.registers' b.ram' (sp - bytes + 4) rs =
             stored_stays (sp - bytes + 4) rs leap.registers' opened.ram' b.ram' (omega arith) (λ q from to. stays q (omega arith) (omega arith)) opened.stored in
-            let through = stays_through w n f sp xs ys h c (sp - bytes + 4) (j + 2) registers leap.registers' opened.registers' b.registers closed.registers' ram opened.ram' b.ram' s.answers leap.others opened.others b.untouched closed.others stored3 closed.stored in
+            let through = stays_through w n f sp xs ys h c (sp - bytes + 4) next registers leap.registers' opened.registers' b.registers closed.registers' ram opened.ram' b.ram' s.answers leap.others opened.others b.untouched closed.others stored3 closed.stored in
             let standing : Standing 10 ws b.registers = words_stand 10 c.results ws b.after.locals b.registers fn.results e (λ x v low high is. b.stands.values x v (omega arith) (omega arith) is) in
             let passed : (y : ℕ) → is_in c.results y ≡ true → 3 ≤ y → reads closed.registers' y ≡ reads b.registers y =
             λ y is low. closed.others y (none_left (is_saved w.forgets h c) y 3 29 (not_saved y is)) (omega arith) (omega arith) in
             let after : State = record b.after { locals = with_locals xs ws outer } in
-            let runs = runs-append w.low (2 + opened.steps) (b.steps + closed.steps) (at w.code j registers ram s.answers s.trace) (at w.code ps.start opened.registers' opened.ram' s.answers s.trace) (at w.code (j + 2) closed.registers' b.ram' b.after.answers b.after.trace)
-            (runs-append w.low 2 opened.steps (at w.code j registers ram s.answers s.trace) (at w.code place leap.registers' ram s.answers s.trace) (at w.code ps.start opened.registers' opened.ram' s.answers s.trace) leap.runs opened.runs)
-            (runs-append w.low b.steps closed.steps (at w.code ps.start opened.registers' opened.ram' s.answers s.trace) (at w.code last b.registers b.ram' b.after.answers b.after.trace) (at w.code (j + 2) closed.registers' b.ram' b.after.answers b.after.trace) b.runs closed.runs) in
-            let ready4 = ready_runs g registers ram s.answers closed.registers' b.ram' b.after.answers s.trace b.after.trace j (j + 2) (2 + opened.steps + (b.steps + closed.steps)) ready runs in
+            let runs = runs-append w.low (leap.steps + opened.steps) (b.steps + closed.steps) (at w.code j registers ram s.answers s.trace) (at w.code ps.start opened.registers' opened.ram' s.answers s.trace) (at w.code next closed.registers' b.ram' b.after.answers b.after.trace)
+            (runs-append w.low leap.steps opened.steps (at w.code j registers ram s.answers s.trace) (at w.code place leap.registers' ram s.answers s.trace) (at w.code ps.start opened.registers' opened.ram' s.answers s.trace) leap.runs opened.runs)
+            (runs-append w.low b.steps closed.steps (at w.code ps.start opened.registers' opened.ram' s.answers s.trace) (at w.code last b.registers b.ram' b.after.answers b.after.trace) (at w.code next closed.registers' b.ram' b.after.answers b.after.trace) b.runs closed.runs) in
+            let ready4 = ready_runs g registers ram s.answers closed.registers' b.ram' b.after.answers s.trace b.after.trace j next (leap.steps + opened.steps + (b.steps + closed.steps)) ready runs in
             On (record {
               choices = b.choices;
               chosen = b.chosen;
@@ -460,7 +472,7 @@ call_shown w n f sp xs ys h c d site again free j k s registers ram vs inside de
                   ∙ returns_to xs outer c.results (given b.after rest) (Some ws) e;
               registers = closed.registers';
               ram' = b.ram';
-              steps = 2 + opened.steps + (b.steps + closed.steps);
+              steps = leap.steps + opened.steps + (b.steps + closed.steps);
               runs = runs;
               ready = ready4;
               stands = record {
@@ -488,9 +500,9 @@ call_shown w n f sp xs ys h c d site again free j k s registers ram vs inside de
 
             both_ends : (last : ℕ) → last ≤ 6 + length (saves w.forgets h c) → 80 + sum (map statement_bulk c.body) ≤ w.total → opened.steps ≤ 5 + length (saves w.forgets h c) → 1 ≤ opened.steps → length (saves w.forgets h c) ≤ 29
                 → Paced (inner w n f sp xs ys h c d site) (record s { locals = with_locals c.args vs no_locals; fuel = k }) b.after b.steps (sum (map statement_bulk c.body))
-                → Paced (ground w n f (suc d) sp site.under site.top site.four) (record s { fuel = suc k }) (record b.after { locals = with_locals xs ws (without_names (w.forgets h) s.locals) }) (2 + opened.steps + (b.steps + last)) 2
+                → Paced (ground w n f (suc d) sp site.under site.top site.four) (record s { fuel = suc k }) (record b.after { locals = with_locals xs ws (without_names (w.forgets h) s.locals) }) (leap.steps + opened.steps + (b.steps + last)) 2
             both_ends last few_last fits few some short p =
-                let q = pace (record s { locals = with_locals c.args vs no_locals; fuel = k }) b.after 0 (2 + opened.steps + last) b.steps 0 refl (omega arith) (omega arith) fits p in
+                let q = pace (record s { locals = with_locals c.args vs no_locals; fuel = k }) b.after 0 (leap.steps + opened.steps + last) b.steps 0 refl (omega arith) (omega arith) fits p in
                 let a1 = q.takes in let a2 = q.least in let a3 = q.most in
                 record { takes = a1; least = omega arith; most = omega arith }
 

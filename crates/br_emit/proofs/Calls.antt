@@ -1,25 +1,28 @@
 -- Calls, in code: by induction on how deep they are followed.
-use Rattle.std.proofs.Common.{◌≡◌, ◌≢◌, ◌⊎◌, inl, inr, ℕ, ◌+◌, ◌-◌, ◌*◌, ◌/◌, ◌%◌, ◌^◌, ◌<◌, ◌≤◌, List, [], ◌∷◌, ◌++◌, length, Option, Some, None, Bool, negsuc, refl, sym, ap, ◌∙◌, arith}
+use Rattle.std.proofs.Common.{◌≡◌, ◌≢◌, ◌⊎◌, inl, inr, ℕ, ◌+◌, ◌-◌, ◌*◌, ◌/◌, ◌%◌, ◌^◌, ◌<◌, ◌≤◌, List, [], ◌∷◌, ◌++◌, length, Option, Some, None, Bool, true, false, ◌==◌, ◌&&◌, nat_lt, nat_le, if◌then◌else◌, pos, negsuc, subst, refl, sym, ap, ◌∙◌, arith}
 use Rattle.std.specs.Prelude.{slice_get, slice_index, IfSome}
 use Rattle.std.specs.List.{AllByRecursion}
-use Rattle.br_words.specs.Words.{IsWord, wrapped}
+use Rattle.std.proofs.lemmas.Bool.{ltb-false}
+use Rattle.std.proofs.lemmas.Bool.Decides.{nat_tests}
+use Rattle.br_words.specs.Words.{IsWord, wrapped, signed}
 use Rattle.br_bytes.specs.declared.run.Event.{Event}
 use Rattle.br_flatimp.specs.declared.program.FlatFunc.{FlatFunc}
 use Rattle.br_flatimp.specs.Runs.{Forgets, function_of}
-use Rattle.br_rv32im.specs.declared.instruction.Ins.TheVariants.{Upper, Jalr, Imm}
+use Rattle.br_rv32im.specs.declared.instruction.Ins.TheVariants.{Upper, Jal, Jalr, Imm}
 use Rattle.br_rv32im.specs.declared.instruction.ImmOp.TheVariants.{Addi}
-use Rattle.br_rv32im.specs.declared.instruction.UpperOp.TheVariants.{Lui}
+use Rattle.br_rv32im.specs.declared.instruction.UpperOp.TheVariants.{Lui, Auipc}
+use Rattle.br_rv32im.specs.Encoding.{word_of, Fits, FitsBits, FitsSignedBits, IsEven}
 use Rattle.br_machine.specs.State.{MachineState, IsMachine, register}
 use Rattle.br_machine.specs.Traps.{trap_of}
 use Rattle.br_machine.specs.Step.{step}
 use Rattle.br_machine.specs.Steps.{Runs}
-use Rattle.br_emit.specs.Code.{Does, Targets, high_part, low_part, call_items, registers, changes, save_items, restore_items, move_items, exit_items}
+use Rattle.br_emit.specs.Code.{Does, Targets, is_near, is_reached, distance_to, jump_items, high_part, low_part, call_items, registers, changes, save_items, restore_items, move_items, exit_items}
 pub use Rattle.br_emit.specs.Laid.{Function, may_call}
 use Rattle.br_emit.proofs.Stepping.{machine, at, Good, Table, put, reads, Good-put, reads-put_same, reads-put_other, step_sets, step_goes, IsAbove-none}
 use Rattle.br_emit.proofs.Pieces.{Ground, Placed, placed-front, placed-back, runs-append, runs_one, Ready}
 use Rattle.br_emit.proofs.Setting.{ready_runs, good_of}
 use Rattle.br_emit.proofs.Operations.{parts_value}
-use Rattle.br_emit.proofs.Jumping.{aligned}
+use Rattle.br_emit.proofs.Jumping.{aligned, jumps_by}
 use Rattle.br_emit.proofs.Frames.{move_points, word_at, Stored, saves_run, restores_run, exit_run, NoneOf, Rises}
 use Rattle.br_emit.proofs.Statements.{CallSimulates}
 
@@ -39,6 +42,7 @@ pub record World : Type 0 where
   pub need : ℕ → ℕ
   pub limit : ℕ → ℕ
   pub bottom : 0x80200000 ≤ low
+  pub reach : targets.near ≡ true → length code ≤ 262144
   pub functions : (n : ℕ) (f : FlatFunc) → slice_get fs n ≡ Some f → Function code fs targets forgets called need limit total n f
 
 -- what the body of a function rests on, with the stack pointer at a place
@@ -68,17 +72,82 @@ CallsAt w d =
 
 -- ---- the jump to a function
 
-pub record Leaps (g : Ground) (j to : ℕ) (registers ram answers : List ℕ) (trace : List Event) : Type 0 where
+pub record Leaps (g : Ground) (j next to : ℕ) (registers ram answers : List ℕ) (trace : List Event) : Type 0 where
   pub registers' : List ℕ
   pub good : Good g.code registers' ram
-  pub runs : Runs g.low 2 (at g.code j registers ram answers trace) (at g.code to registers' ram answers trace)
-  pub back : reads registers' 1 ≡ 0x80300000 + 4 * (j + 2)
+  pub steps : ℕ
+  pub some : 1 ≤ steps
+  pub few : steps ≤ 2
+  pub runs : Runs g.low steps (at g.code j registers ram answers trace) (at g.code to registers' ram answers trace)
+  pub back : reads registers' 1 ≡ 0x80300000 + 4 * next
   pub others : (y : ℕ) → y ≢ 1 → reads registers' y ≡ reads registers y
 
-pub leaps : (g : Ground) (j to target : ℕ) (registers ram answers : List ℕ) (trace : List Event)
-    → Good g.code registers ram → Placed g.code j (call_items target) → target ≡ 0x80300000 + 4 * to → target < 2 ^ 32 → j < 1048576
-    → Leaps g j to registers ram answers trace
-leaps g j to target registers ram answers trace good placed is small near =
+-- the jump of a near call reaches
+reached : (j to target : ℕ) → target ≡ 0x80300000 + 4 * to → j < 262144 → to < 262144 → is_reached (distance_to j target) ≡ true
+reached j to target is near far =
+    let distance = distance_to j target in
+    let whole : distance % 4 ≡ 0 = omega arith in
+    by (nat_lt distance (2 ^ 20)) refl (nat_le (2 ^ 32 - 2 ^ 20) distance) refl whole
+  where
+    by : (a : Bool) → nat_lt (distance_to j target) (2 ^ 20) ≡ a → (b : Bool) → nat_le (2 ^ 32 - 2 ^ 20) (distance_to j target) ≡ b → distance_to j target % 4 ≡ 0 → is_reached (distance_to j target) ≡ true
+    by true e b k whole = let four : (distance_to j target % 4 == 0) ≡ true = grind (arith, nat_tests) in rw (e, four) refl
+    by false e true k whole = let four : (distance_to j target % 4 == 0) ≡ true = grind (arith, nat_tests) in rw (e, k, four) refl
+    by false e false k whole =
+        let low : 2 ^ 20 ≤ distance_to j target = ltb-false (distance_to j target) (2 ^ 20) e in
+        let high : distance_to j target < 2 ^ 32 - 2 ^ 20 = grind (arith, nat_tests) in
+        absurd (omega arith)
+
+-- it fits
+link_fits : (w : ℕ) → w < 2 ^ 32 → is_reached w ≡ true → Fits (Jal 1 (signed w))
+link_fits w small is = by (nat_lt w (2 ^ 31)) refl (reach.0) (reach.1)
+  where
+    parts : (a b : Bool) → (a && b) ≡ true → (a ≡ true) × (b ≡ true)
+    parts true true h = (refl, refl)
+    parts true false h = absurd (cc)
+    parts false b h = absurd (cc)
+
+    reach : (is_near w ≡ true) × (w % 4 ≡ 0)
+    reach = let two = parts (is_near w) (w % 4 == 0) is in let four = two.1 in (two.0, grind (arith, nat_tests))
+
+    by : (b : Bool) → nat_lt w (2 ^ 31) ≡ b → is_near w ≡ true → w % 4 ≡ 0 → FitsBits 5 1 × FitsSignedBits 21 (if b then pos w else negsuc (2 ^ 32 - 1 - w)) × IsEven (if b then pos w else negsuc (2 ^ 32 - 1 - w))
+    by true e near whole = grind (arith, nat_tests)
+    by false e near whole = grind (arith, nat_tests)
+
+pub leaps : (g : Ground) (near : Bool) (j to target : ℕ) (registers ram answers : List ℕ) (trace : List Event)
+    → Good g.code registers ram → Placed g.code j (call_items near target) → target ≡ 0x80300000 + 4 * to → target < 2 ^ 32 → j < 1048576
+    → (near ≡ true → length g.code ≤ 262144) → j < length g.code → to < length g.code
+    → Leaps g j (j + length (call_items near target)) to registers ram answers trace
+leaps g true j to target registers ram answers trace good placed is small few reach inside there =
+    let most = reach refl in
+    let w = distance_to j target in
+    let bound : w < 2 ^ 32 = omega arith in
+    let ok = reached j to target is (omega arith) (omega arith) in
+    let two = near_is ok in
+    let has : slice_get g.code j ≡ Some (word_of (Jal 1 (signed w))) = placed.0 ∙ ap (λ b. Some (if b then word_of (Jal 1 (signed w)) else 0)) ok in
+    let items : Placed g.code j (if is_near w then Does (Jal 1 (signed w)) ∷ [] else Does (Upper Auipc 1 (high_part w % 2 ^ 20)) ∷ Does (Jalr 1 1 (low_part w)) ∷ []) =
+    subst (λ b. Placed g.code j (if b then Does (Jal 1 (signed w)) ∷ [] else Does (Upper Auipc 1 (high_part w % 2 ^ 20)) ∷ Does (Jalr 1 1 (low_part w)) ∷ [])) (sym two) (has, link_fits w bound ok, tt) in
+    let leads : (0x80300000 + 4 * j + w) % 2 ^ 32 ≡ 0x80300000 + 4 * to = omega arith in
+    let jumps = jumps_by g j to 1 w registers ram answers trace good items (inr refl) bound leads (omega arith) in
+    let moves = jumps.moves in
+    let one : length (jump_items 1 w) ≡ 1 = ap (λ b. length (if b then Does (Jal 1 (signed w)) ∷ [] else Does (Upper Auipc 1 (high_part w % 2 ^ 20)) ∷ Does (Jalr 1 1 (low_part w)) ∷ [])) two in
+    record {
+      registers' = moves.registers';
+      good = moves.good;
+      steps = moves.steps;
+      some = moves.some;
+      few = moves.few;
+      runs = moves.runs;
+      back = jumps.link_is refl ∙ ap (λ n. 0x80300000 + 4 * (j + n)) one;
+      others = moves.others;
+    }
+  where
+    near_is : is_reached (distance_to j target) ≡ true → is_near (distance_to j target) ≡ true
+    near_is h = by (is_near (distance_to j target)) (distance_to j target % 4 == 0) h
+      where
+        by : (a b : Bool) → (a && b) ≡ true → a ≡ true
+        by true b h = refl
+        by false b h = absurd (cc)
+leaps g false j to target registers ram answers trace good placed is small near reach inside there =
     let all = good.all in
     let x = high_part target * 4096 in
     let first = step_sets g.table g.code registers ram answers trace g.low j (Upper Lui 1 (high_part target)) 1 x good placed.0 placed.1 refl refl (IsAbove-none g.low) in
@@ -95,6 +164,9 @@ leaps g j to target registers ram answers trace good placed is small near =
     record {
       registers' = put 1 v registers1;
       good = Good-put g.code registers1 ram 1 v good1;
+      steps = 2;
+      some = omega arith;
+      few = omega arith;
       runs = (at g.code (j + 1) registers1 ram answers trace, first, (at g.code to (put 1 v registers1) ram answers trace, second, refl));
       back = reads-put_same 1 v registers1 (omega arith) (omega (arith, good1.all)) ∙ omega arith;
       others = λ y ne. reads-put_other 1 y v registers1 ne ∙ reads-put_other 1 y x registers ne;

@@ -11,7 +11,7 @@ use Rattle.br_flatimp.specs.Parts.{callees}
 use Rattle.br_flatimp.specs.Liveness.{is_in}
 use Rattle.br_flatimp.specs.WellFormed.{are_registers, is_passing, counts_fit, all_differ}
 use Rattle.br_flatimp.specs.Runs.{State, Run, statement_step, function_of}
-use Rattle.br_emit.specs.Code.{changes, written_names}
+use Rattle.br_emit.specs.Code.{call_items, changes, written_names}
 use Rattle.br_emit.proofs.Stepping.{at}
 use Rattle.br_emit.proofs.Pieces.{Shown, given}
 use Rattle.br_emit.proofs.Leaves.{both, true_false, wrong_at_once}
@@ -131,27 +131,27 @@ pub calls_at : (w : World) (d : ℕ) → CallsAt w d
 calls_at w zero n f sp under top four room caller xs ys h ok free j s registers ram nest_fits multiple inside deep placed ready stands = by (words_of ys s.locals) refl
   where
     by : (o : Option (List ℕ)) → words_of ys s.locals ≡ o
-        → Shown (ground w n f 0 sp under top four) (statement_step w.forgets (function_of w.forgets w.fs 0) (Stmt-F.Call xs h ys)) s (at w.code j registers ram s.answers s.trace) ram (sp + free) (j + 2) 2
-    by None e = wrong_at_once (ground w n f 0 sp under top four) (statement_step w.forgets (function_of w.forgets w.fs 0) (Stmt-F.Call xs h ys)) s registers ram (sp + free) j (j + 2) 2
+        → Shown (ground w n f 0 sp under top four) (statement_step w.forgets (function_of w.forgets w.fs 0) (Stmt-F.Call xs h ys)) s (at w.code j registers ram s.answers s.trace) ram (sp + free) (j + length (call_items w.targets.near (w.targets.at h))) 2
+    by None e = wrong_at_once (ground w n f 0 sp under top four) (statement_step w.forgets (function_of w.forgets w.fs 0) (Stmt-F.Call xs h ys)) s registers ram (sp + free) j (j + length (call_items w.targets.near (w.targets.at h))) 2
         (λ rest. ap (λ o. with_defined o (given s rest) (λ vs. with_fuel (given s rest) (λ t. back_in (with_locals xs) (without_names (w.forgets h) s.locals) (function_of w.forgets w.fs 0 h vs t)))) e)
-    by (Some vs) e = out_of_fuel (ground w n f 0 sp under top four) (statement_step w.forgets (function_of w.forgets w.fs 0) (Stmt-F.Call xs h ys)) s registers ram (sp + free) j (j + 2) 2
+    by (Some vs) e = out_of_fuel (ground w n f 0 sp under top four) (statement_step w.forgets (function_of w.forgets w.fs 0) (Stmt-F.Call xs h ys)) s registers ram (sp + free) j (j + length (call_items w.targets.near (w.targets.at h))) 2
         (λ rest. ap (λ o. with_defined o (given s rest) (λ vs. with_fuel (given s rest) (λ t. back_in (with_locals xs) (without_names (w.forgets h) s.locals) (function_of w.forgets w.fs 0 h vs t)))) e
         ∙ no_fuel (given s rest) (λ t. back_in (with_locals xs) (without_names (w.forgets h) s.locals) (function_of w.forgets w.fs 0 h vs t)) (omega arith)) (omega arith) stands
 calls_at w (suc d) n f sp under top four room caller xs ys h ok free j s registers ram nest_fits multiple inside deep placed ready stands = by (calls_at w d) (words_of ys s.locals) refl
   where
     by : CallsAt w d → (o : Option (List ℕ)) → words_of ys s.locals ≡ o
-        → Shown (ground w n f (suc d) sp under top four) (statement_step w.forgets (function_of w.forgets w.fs (suc d)) (Stmt-F.Call xs h ys)) s (at w.code j registers ram s.answers s.trace) ram (sp + free) (j + 2) 2
-    by again None e = wrong_at_once (ground w n f (suc d) sp under top four) (statement_step w.forgets (function_of w.forgets w.fs (suc d)) (Stmt-F.Call xs h ys)) s registers ram (sp + free) j (j + 2) 2
+        → Shown (ground w n f (suc d) sp under top four) (statement_step w.forgets (function_of w.forgets w.fs (suc d)) (Stmt-F.Call xs h ys)) s (at w.code j registers ram s.answers s.trace) ram (sp + free) (j + length (call_items w.targets.near (w.targets.at h))) 2
+    by again None e = wrong_at_once (ground w n f (suc d) sp under top four) (statement_step w.forgets (function_of w.forgets w.fs (suc d)) (Stmt-F.Call xs h ys)) s registers ram (sp + free) j (j + length (call_items w.targets.near (w.targets.at h))) 2
         (λ rest. ap (λ o. with_defined o (given s rest) (λ vs. with_fuel (given s rest) (λ t. back_in (with_locals xs) (without_names (w.forgets h) s.locals) (function_of w.forgets w.fs (suc d) h vs t)))) e)
     by again (Some vs) e = fuelled s.fuel refl
       where
         fuelled : (k : ℕ) → s.fuel ≡ k
-            → Shown (ground w n f (suc d) sp under top four) (statement_step w.forgets (function_of w.forgets w.fs (suc d)) (Stmt-F.Call xs h ys)) s (at w.code j registers ram s.answers s.trace) ram (sp + free) (j + 2) 2
-        fuelled zero none = out_of_fuel (ground w n f (suc d) sp under top four) (statement_step w.forgets (function_of w.forgets w.fs (suc d)) (Stmt-F.Call xs h ys)) s registers ram (sp + free) j (j + 2) 2
+            → Shown (ground w n f (suc d) sp under top four) (statement_step w.forgets (function_of w.forgets w.fs (suc d)) (Stmt-F.Call xs h ys)) s (at w.code j registers ram s.answers s.trace) ram (sp + free) (j + length (call_items w.targets.near (w.targets.at h))) 2
+        fuelled zero none = out_of_fuel (ground w n f (suc d) sp under top four) (statement_step w.forgets (function_of w.forgets w.fs (suc d)) (Stmt-F.Call xs h ys)) s registers ram (sp + free) j (j + length (call_items w.targets.near (w.targets.at h))) 2
             (λ rest. ap (λ o. with_defined o (given s rest) (λ vs. with_fuel (given s rest) (λ t. back_in (with_locals xs) (without_names (w.forgets h) s.locals) (function_of w.forgets w.fs (suc d) h vs t)))) e
             ∙ no_fuel (given s rest) (λ t. back_in (with_locals xs) (without_names (w.forgets h) s.locals) (function_of w.forgets w.fs (suc d) h vs t)) none) none stands
         fuelled (suc k) some =
             let a = allowed w n f xs ys h ok in
             let st = site w n f sp xs ys h under top four room caller a in
-            subst (λ q. Shown (ground w n f (suc d) sp under top four) (statement_step w.forgets (function_of w.forgets w.fs (suc d)) (Stmt-F.Call xs h ys)) (record s { fuel = q }) (at w.code j registers ram s.answers s.trace) ram (sp + free) (j + 2) 2) (sym some)
+            subst (λ q. Shown (ground w n f (suc d) sp under top four) (statement_step w.forgets (function_of w.forgets w.fs (suc d)) (Stmt-F.Call xs h ys)) (record s { fuel = q }) (at w.code j registers ram s.answers s.trace) ram (sp + free) (j + length (call_items w.targets.near (w.targets.at h))) 2) (sym some)
             (call_shown w n f sp xs ys h a.fits.callee d st again free j k s registers ram vs inside (omega arith) e placed ready stands)

@@ -268,7 +268,7 @@ handed_on xs outer (Goes t) passing = by (words_of xs t.locals) refl
     by None e = rw e refl
     by (Some ws) e = let set = words_set 10 xs ws outer passing (of_length xs ws t.locals e) in rw (e, set) refl
 
-pub called_shown : (w : World) (n : ℕ) (f : FlatFunc) (place all need fuel : ℕ) → slice_get w.fs n ≡ Some f → w.called n ≡ true → Placed w.code place (entry_items (w.targets n)) → length w.code ≤ 1048576
+pub called_shown : (w : World) (n : ℕ) (f : FlatFunc) (place all need fuel : ℕ) → slice_get w.fs n ≡ Some f → w.called n ≡ true → Placed w.code place (entry_items w.targets.near (w.targets.at n)) → length w.code ≤ 1048576
     → w.low + w.need n ≤ 0x80300000 → 16 + w.total ≤ all → w.low ≡ 0x80300000 - need
     → (args : List ℕ) → length args ≡ length f.args → AreWords args
     → (m : Memory) → IsInData m → (answers : List ℕ) → AreWords answers → (j : Leftover) → IsLeftover j
@@ -279,7 +279,7 @@ called_shown w n f place all need fuel there is_called placed few room more low_
     let bottom = w.bottom in
     let sp : ℕ = 0x80300000 in
     let c = caller_of n f in
-    let near = near_start w.code place (Does (Upper Lui 2 0x80300)) (call_items (w.targets n) ++ Does Ecall ∷ []) placed few in
+    let near = near_start w.code place (Does (Upper Lui 2 0x80300)) (call_items w.targets.near (w.targets.at n) ++ Does Ecall ∷ []) placed few in
     let site : Site w 0 c 0x80300000 f.results f.args n f = record {
       under = omega arith;
       top = omega arith;
@@ -308,12 +308,12 @@ called_shown w n f place all need fuel there is_called placed few room more low_
       pointer = sets.value;
     } in
     let is_words : words_of f.args s.locals ≡ Some args = words_set 10 f.args args no_locals fn.args (sym count) in
-    let p1 = placed-front w.code (place + 1) (call_items (w.targets n)) (Does Ecall ∷ []) placed.2 in
-    let p2 = placed-back w.code (place + 1) (call_items (w.targets n)) (Does Ecall ∷ []) placed.2 in
+    let p1 = placed-front w.code (place + 1) (call_items w.targets.near (w.targets.at n)) (Does Ecall ∷ []) placed.2 in
+    let p2 = placed-back w.code (place + 1) (call_items w.targets.near (w.targets.at n)) (Does Ecall ∷ []) placed.2 in
     let call : State → Run = statement_step w.forgets (function_of w.forgets w.fs (suc fuel)) (Stmt-F.Call f.results n f.args) in
     let run = call_shown w 0 c 0x80300000 f.results f.args n f fuel site (calls_at w fuel) 0 (place + 1) fuel s sets.registers' ram0 args (omega arith) (omega arith) is_words p1 ready1 stands1 in
     let outer = without_names (w.forgets n) s.locals in
-    finish g call (record s { fuel = suc fuel }) f.results 1 place (place + 1) (place + 1 + 2) 2 ((fuel + 1) * all) fuel need args answers sets.registers' m j
+    finish g call (record s { fuel = suc fuel }) f.results 1 place (place + 1) (place + 1 + length (call_items w.targets.near (w.targets.at n))) 2 ((fuel + 1) * all) fuel need args answers sets.registers' m j
     (λ choices. call_forgetting w.forgets w.fs n args m answers choices fuel) refl refl refl (omega arith) fn.results fn.few_results
     (λ choices.
     ap (λ o. seen (enter w.forgets (function_of w.forgets w.fs fuel) o args (begin m answers choices fuel))) there
@@ -337,5 +337,6 @@ world l table makes = record {
   need = l.need;
   limit = l.limit;
   bottom = l.bottom;
+  reach = l.reach;
   functions = l.functions;
 }

@@ -47,27 +47,27 @@ agree_here p q n size h = h n (omega arith) (omega arith)
 agree_rest : (p q : ℕ → Bool) (n size : ℕ) → Agree p q n (suc size) → Agree p q (n + 1) size
 agree_rest p q n size h k from below = h k (omega (arith, from)) (omega (arith, below))
 
-pub same_begins : (forgets : Forgets) (p q : ℕ → Bool) (place n : ℕ) (rest : List FlatFunc) → Agree p q n (length rest) → begins forgets p place n rest ≡ begins forgets q place n rest
-same_begins forgets p q place n [] h = refl
-same_begins forgets p q place n (f ∷ rest) h =
-    ap (λ l. place ∷ l) (same_begins forgets p q (place + function_words forgets (p n) n f) (n + 1) rest (agree_rest p q n (length rest) h)
-    ∙ ap (λ b. begins forgets q (place + function_words forgets b n f) (n + 1) rest) (agree_here p q n (length rest) h))
+pub same_begins : (near : Bool) (forgets : Forgets) (p q : ℕ → Bool) (place n : ℕ) (rest : List FlatFunc) → Agree p q n (length rest) → begins near forgets p place n rest ≡ begins near forgets q place n rest
+same_begins near forgets p q place n [] h = refl
+same_begins near forgets p q place n (f ∷ rest) h =
+    ap (λ l. place ∷ l) (same_begins near forgets p q (place + function_words near forgets (p n) n f) (n + 1) rest (agree_rest p q n (length rest) h)
+    ∙ ap (λ b. begins near forgets q (place + function_words near forgets b n f) (n + 1) rest) (agree_here p q n (length rest) h))
 
-pub same_entries : (forgets : Forgets) (p q : ℕ → Bool) (place n : ℕ) (rest : List FlatFunc) → Agree p q n (length rest) → entries forgets p place n rest ≡ entries forgets q place n rest
-same_entries forgets p q place n [] h = refl
-same_entries forgets p q place n (f ∷ rest) h =
-    ap (λ l. (if p n then place + callable_words forgets n f else place) ∷ l) (same_entries forgets p q (place + function_words forgets (p n) n f) (n + 1) rest (agree_rest p q n (length rest) h))
-    ∙ ap (λ b. (if b then place + callable_words forgets n f else place) ∷ entries forgets q (place + function_words forgets b n f) (n + 1) rest) (agree_here p q n (length rest) h)
+pub same_entries : (near : Bool) (forgets : Forgets) (p q : ℕ → Bool) (place n : ℕ) (rest : List FlatFunc) → Agree p q n (length rest) → entries near forgets p place n rest ≡ entries near forgets q place n rest
+same_entries near forgets p q place n [] h = refl
+same_entries near forgets p q place n (f ∷ rest) h =
+    ap (λ l. (if p n then place + callable_words near forgets n f else place) ∷ l) (same_entries near forgets p q (place + function_words near forgets (p n) n f) (n + 1) rest (agree_rest p q n (length rest) h))
+    ∙ ap (λ b. (if b then place + callable_words near forgets n f else place) ∷ entries near forgets q (place + function_words near forgets b n f) (n + 1) rest) (agree_here p q n (length rest) h)
 
-pub same_words : (forgets : Forgets) (p q : ℕ → Bool) (n : ℕ) (rest : List FlatFunc) → Agree p q n (length rest) → program_words forgets p n rest ≡ program_words forgets q n rest
-same_words forgets p q n [] h = refl
-same_words forgets p q n (f ∷ rest) h =
-    ap (λ l. function_words forgets (p n) n f + l) (same_words forgets p q (n + 1) rest (agree_rest p q n (length rest) h))
-    ∙ ap (λ b. function_words forgets b n f + program_words forgets q (n + 1) rest) (agree_here p q n (length rest) h)
+pub same_words : (near : Bool) (forgets : Forgets) (p q : ℕ → Bool) (n : ℕ) (rest : List FlatFunc) → Agree p q n (length rest) → program_words near forgets p n rest ≡ program_words near forgets q n rest
+same_words near forgets p q n [] h = refl
+same_words near forgets p q n (f ∷ rest) h =
+    ap (λ l. function_words near forgets (p n) n f + l) (same_words near forgets p q (n + 1) rest (agree_rest p q n (length rest) h))
+    ∙ ap (λ b. function_words near forgets b n f + program_words near forgets q (n + 1) rest) (agree_here p q n (length rest) h)
 
 -- functions one after another are the program
 pub rest_is : (targets : Targets) (forgets : Forgets) (p : ℕ → Bool) (fs : List FlatFunc) (n : ℕ) (rest : List FlatFunc) → Agree p (is_called fs) n (length rest) → rest_items targets forgets p n rest ≡ program_items targets forgets fs n rest
 rest_is targets forgets p fs n [] h = refl
 rest_is targets forgets p fs n (f ∷ rest) h =
-    ap (λ l. one_items targets forgets (p n) n (targets n) f ++ l) (rest_is targets forgets p fs (n + 1) rest (agree_rest p (is_called fs) n (length rest) h))
-    ∙ ap (λ b. (if b then callable_items targets forgets n f ++ entry_items (targets n) else direct_items targets f) ++ program_items targets forgets fs (n + 1) rest) (agree_here p (is_called fs) n (length rest) h)
+    ap (λ l. one_items targets forgets (p n) n (targets.at n) f ++ l) (rest_is targets forgets p fs (n + 1) rest (agree_rest p (is_called fs) n (length rest) h))
+    ∙ ap (λ b. (if b then callable_items targets forgets n f ++ entry_items targets.near (targets.at n) else direct_items targets f) ++ program_items targets forgets fs (n + 1) rest) (agree_here p (is_called fs) n (length rest) h)

@@ -17,14 +17,15 @@ use Rattle.br_flatimp.specs.Sizes.{nest, largest, own_need, function_bulk, flat_
 use Rattle.br_flatimp.specs.WellFormed.{IsRegisterForm, names_differ, is_well_formed_function, is_well_formed_head, is_well_formed_statement, is_register_function, is_passing, is_list_of_names, are_below, all_differ, uses_registers}
 use Rattle.br_image.specs.declared.images.Entry.{Entry}
 use Rattle.br_image.specs.Limits.{InLimits, EntryInLimits, HaveDifferentNames}
-use Rattle.br_emit.specs.Code.{AllFit, item_word, Targets, callable_items, program_items, places, entry_place, is_called, function_items}
+use Rattle.br_emit.specs.Code.{AllFit, words_at, Targets, address_of, callable_items, program_items, places, entry_place, is_called, function_items}
 use Rattle.br_emit.specs.Sizes.{callable_words, function_words, begins, entries, program_words}
 use Rattle.br_emit.specs.Registers.{IsClosed}
-use Rattle.br_emit.specs.Ready.{InReach, aimed, is_encodable}
-use Rattle.br_emit.specs.Written.{rest_items, flagged, AreCalled, Writable, CanWrite, address_of, offset_of, addresses, entry_offsets}
+use Rattle.br_emit.specs.Ready.{Aims, InReach, aimed, is_encodable}
+use Rattle.br_emit.specs.Written.{rest_items, flagged, AreCalled, Writable, CanWrite, offset_of, is_near_program, aims_of, entry_offsets}
 use Rattle.br_emit.specs.Laid.{IsCodeOf, EntryShown, ShowsFunction, callee_need}
 use Rattle.br_emit.specs.Emitted.{AreNeeds, AllDescribed, IsOffset, ShowsProgram, HasFewNames, entry_of, entries_of}
 use Rattle.br_emit.proofs.Leaves.{both}
+use Rattle.br_emit.proofs.Readiness.{words_long}
 use Rattle.br_emit.proofs.Totals.{sum_cons, all_within, callable_length, function_length, program_length, program_most, begins_are}
 use Rattle.br_emit.proofs.Needing.{own_need_is_enough}
 use Rattle.br_emit.proofs.Encodable.{body_encodable}
@@ -104,9 +105,9 @@ formed fs form n f there =
 
 pub can_write : (fs : List FlatFunc) (ns : List ℕ) (most : ℕ) → IsRegisterForm fs → AreNeeds fs ns → All (λ n. n ≤ 1048576) ns → flat_bulk fs ≤ 1048576 → flat_bulk fs ≤ most → CanWrite most fs
 can_write fs ns most form is few fit room = record {
-  each = all_by (Writable most) fs
+  each = all_by (Writable (is_near_program fs) most) fs
       (λ n f there.
-      let within = all_within f.body (nest f) in
+      let within = all_within (is_near_program fs) f.body (nest f) in
       let parts = within.parts in
       let bulk = within_sum function_bulk fs n f there in
       let own = needed fs ns is few n f there in
@@ -120,13 +121,13 @@ can_write fs ns most form is few fit room = record {
 }
 
 -- what can be written with so much room can be written with more
-pub writable_more : (most more : ℕ) (fs : List FlatFunc) → most ≤ more → AllByRecursion (Writable most) fs → AllByRecursion (Writable more) fs
-writable_more most more [] h each = tt
-writable_more most more (f ∷ fs) h each =
+pub writable_more : (near : Bool) (most more : ℕ) (fs : List FlatFunc) → most ≤ more → AllByRecursion (Writable near most) fs → AllByRecursion (Writable near more) fs
+writable_more near most more [] h each = tt
+writable_more near most more (f ∷ fs) h each =
     let here = each.0 in
     let parts = here.parts in (
       record { nested = here.nested; form = here.form; parts = omega (arith, parts, h) },
-      writable_more most more fs h each.1,
+      writable_more near most more fs h each.1,
     )
 
 -- each function has at least one word in its bulk
@@ -142,71 +143,72 @@ have_few_names fs form = all_by HasFewNames fs (λ n f there. let is = formed fs
 
 -- ---- addresses
 
-below : (forgets : Forgets) (called : ℕ → Bool) (place n : ℕ) (rest : List FlatFunc) (g : ℕ) → get_or (map address_of (begins forgets called place n rest)) g 0 ≤ address_of (place + program_words forgets called n rest)
-below forgets called place n [] g = omega arith
-below forgets called place n (f ∷ rest) zero = omega arith
-below forgets called place n (f ∷ rest) (suc g) = let later = below forgets called (place + function_words forgets (called n) n f) (n + 1) rest g in omega (arith, later)
+below : (near : Bool) (forgets : Forgets) (called : ℕ → Bool) (place n : ℕ) (rest : List FlatFunc) (g : ℕ) → get_or (map address_of (begins near forgets called place n rest)) g 0 ≤ address_of (place + program_words near forgets called n rest)
+below near forgets called place n [] g = omega arith
+below near forgets called place n (f ∷ rest) zero = omega arith
+below near forgets called place n (f ∷ rest) (suc g) = let later = below near forgets called (place + function_words near forgets (called n) n f) (n + 1) rest g in omega (arith, later)
 
-pub in_reach : (forgets : Forgets) (fs : List FlatFunc) → flat_bulk fs ≤ 1048576 → (g : ℕ) → InReach (aimed (addresses forgets fs) g)
+pub in_reach : (forgets : Forgets) (fs : List FlatFunc) → flat_bulk fs ≤ 1048576 → (g : ℕ) → InReach ((aimed (aims_of forgets fs)).at g)
 in_reach forgets fs fit g =
-    let most = program_most forgets (is_called fs) 0 fs in
-    let less : aimed (addresses forgets fs) g ≤ 0x80300000 + 4 * (0 + program_words forgets (is_called fs) 0 fs) = below forgets (is_called fs) 0 0 fs g in
+    let most = program_most (is_near_program fs) forgets (is_called fs) 0 fs in
+    let less : (aimed (aims_of forgets fs)).at g ≤ 0x80300000 + 4 * (0 + program_words (is_near_program fs) forgets (is_called fs) 0 fs) = below (is_near_program fs) forgets (is_called fs) 0 0 fs g in
     omega (arith, most, less, fit)
 
-aimed_at : (forgets : Forgets) (fs : List FlatFunc) (n place : ℕ) → slice_get (places (aimed (addresses forgets fs)) forgets fs 0 0 fs) n ≡ Some place → aimed (addresses forgets fs) n ≡ 0x80300000 + 4 * place
-aimed_at forgets fs n place at = get_some address_of (begins forgets (is_called fs) 0 0 fs) n place (ap (λ q. slice_get q n) (begins_are (aimed (addresses forgets fs)) forgets fs 0 0 fs) ∙ at)
+aimed_at : (forgets : Forgets) (fs : List FlatFunc) (n place : ℕ) → slice_get (places (aimed (aims_of forgets fs)) forgets fs 0 0 fs) n ≡ Some place → (aimed (aims_of forgets fs)).at n ≡ 0x80300000 + 4 * place
+aimed_at forgets fs n place at = get_some address_of (begins (is_near_program fs) forgets (is_called fs) 0 0 fs) n place (ap (λ q. slice_get q n) (begins_are (aimed (aims_of forgets fs)) forgets fs 0 0 fs) ∙ at)
 
 -- ---- what is written, by the flags of called functions
 
-pub words_few : (forgets : Forgets) (fs : List FlatFunc) (flags : List Bool) (most : ℕ) → AreCalled flags fs → flat_bulk fs ≤ most → program_words forgets (flagged flags) 0 fs ≤ most
+pub words_few : (forgets : Forgets) (fs : List FlatFunc) (flags : List Bool) (most : ℕ) → AreCalled flags fs → flat_bulk fs ≤ most → program_words (is_near_program fs) forgets (flagged flags) 0 fs ≤ most
 words_few forgets fs flags bound are fit =
-    let same = same_words forgets (flagged flags) (is_called fs) 0 fs (agree fs flags are) in
-    let most = program_most forgets (is_called fs) 0 fs in
+    let same = same_words (is_near_program fs) forgets (flagged flags) (is_called fs) 0 fs (agree fs flags are) in
+    let most = program_most (is_near_program fs) forgets (is_called fs) 0 fs in
     omega (arith, same, most, fit)
 
-pub record Plan (forgets : Forgets) (fs : List FlatFunc) (flags : List Bool) (targets : List ℕ) : Type 0 where
-  pub reach : (g : ℕ) → InReach (aimed targets g)
-  pub words : length (rest_items (aimed targets) forgets (flagged flags) 0 fs) ≡ program_words forgets (flagged flags) 0 fs
-  pub items : rest_items (aimed targets) forgets (flagged flags) 0 fs ≡ program_items (aimed (addresses forgets fs)) forgets fs 0 fs
+pub record Plan (forgets : Forgets) (fs : List FlatFunc) (flags : List Bool) (targets : Aims) : Type 0 where
+  pub reach : (g : ℕ) → InReach ((aimed targets).at g)
+  pub words : length (rest_items (aimed targets) forgets (flagged flags) 0 fs) ≡ program_words (is_near_program fs) forgets (flagged flags) 0 fs
+  pub items : rest_items (aimed targets) forgets (flagged flags) 0 fs ≡ program_items (aimed (aims_of forgets fs)) forgets fs 0 fs
 
-pub plan : (forgets : Forgets) (fs : List FlatFunc) (flags : List Bool) (targets : List ℕ) → AreCalled flags fs → flat_bulk fs ≤ 1048576 → targets ≡ map address_of (begins forgets (flagged flags) 0 0 fs) → Plan forgets fs flags targets
+pub plan : (forgets : Forgets) (fs : List FlatFunc) (flags : List Bool) (targets : Aims) → AreCalled flags fs → flat_bulk fs ≤ 1048576 → targets ≡ record { near = is_near_program fs; addresses = map address_of (begins (is_near_program fs) forgets (flagged flags) 0 0 fs) } → Plan forgets fs flags targets
 plan forgets fs flags targets are fit is =
     let agrees = agree fs flags are in
-    let targets_are : targets ≡ addresses forgets fs = is ∙ ap (map address_of) (same_begins forgets (flagged flags) (is_called fs) 0 0 fs agrees) in
+    let targets_are : targets ≡ aims_of forgets fs = is ∙ ap (λ q. record { near = is_near_program fs; addresses = map address_of q }) (same_begins (is_near_program fs) forgets (flagged flags) (is_called fs) 0 0 fs agrees) in
     let items = rest_is (aimed targets) forgets (flagged flags) fs 0 fs agrees in
     record {
-      reach = λ g. subst (λ q. InReach (aimed q g)) (sym targets_are) (in_reach forgets fs fit g);
-      words = ap length items ∙ program_length (aimed targets) forgets fs 0 fs ∙ sym (same_words forgets (flagged flags) (is_called fs) 0 fs agrees);
+      reach = λ g. subst (λ q. InReach ((aimed q).at g)) (sym targets_are) (in_reach forgets fs fit g);
+      words = ap length items ∙ program_length (aimed targets) forgets fs 0 fs ∙ ap (λ q. program_words q.near forgets (is_called fs) 0 fs) targets_are ∙ sym (same_words (is_near_program fs) forgets (flagged flags) (is_called fs) 0 fs agrees);
       items = items ∙ ap (λ q. program_items (aimed q) forgets fs 0 fs) targets_are;
     }
 
-pub offsets_are : (forgets : Forgets) (fs : List FlatFunc) (flags : List Bool) → AreCalled flags fs → map offset_of (entries forgets (flagged flags) 0 0 fs) ≡ entry_offsets forgets fs
-offsets_are forgets fs flags are = ap (map offset_of) (same_entries forgets (flagged flags) (is_called fs) 0 0 fs (agree fs flags are))
+pub offsets_are : (forgets : Forgets) (fs : List FlatFunc) (flags : List Bool) → AreCalled flags fs → map offset_of (entries (is_near_program fs) forgets (flagged flags) 0 0 fs) ≡ entry_offsets forgets fs
+offsets_are forgets fs flags are = ap (map offset_of) (same_entries (is_near_program fs) forgets (flagged flags) (is_called fs) 0 0 fs (agree fs flags are))
 
-entries_long : (forgets : Forgets) (called : ℕ → Bool) (place n : ℕ) (rest : List FlatFunc) → length (entries forgets called place n rest) ≡ length rest
-entries_long forgets called place n [] = refl
-entries_long forgets called place n (f ∷ rest) = let rest_long = entries_long forgets called (place + function_words forgets (called n) n f) (n + 1) rest in omega (arith, rest_long)
+entries_long : (near : Bool) (forgets : Forgets) (called : ℕ → Bool) (place n : ℕ) (rest : List FlatFunc) → length (entries near forgets called place n rest) ≡ length rest
+entries_long near forgets called place n [] = refl
+entries_long near forgets called place n (f ∷ rest) = let rest_long = entries_long near forgets called (place + function_words near forgets (called n) n f) (n + 1) rest in omega (arith, rest_long)
 
 pub offsets_long : (forgets : Forgets) (fs : List FlatFunc) → length (entry_offsets forgets fs) ≡ length fs
-offsets_long forgets fs = length-map (entries forgets (is_called fs) 0 0 fs) offset_of ∙ entries_long forgets (is_called fs) 0 0 fs
+offsets_long forgets fs = length-map (entries (is_near_program fs) forgets (is_called fs) 0 0 fs) offset_of ∙ entries_long (is_near_program fs) forgets (is_called fs) 0 0 fs
 
 -- ---- code
 
-pub code_most : (forgets : Forgets) (fs : List FlatFunc) (code : List ℕ) → code ≡ map item_word (program_items (aimed (addresses forgets fs)) forgets fs 0 fs) → length code ≤ flat_bulk fs
+pub code_most : (forgets : Forgets) (fs : List FlatFunc) (code : List ℕ) → code ≡ words_at 0 (program_items (aimed (aims_of forgets fs)) forgets fs 0 fs) → length code ≤ flat_bulk fs
 code_most forgets fs code items =
-    let all = program_items (aimed (addresses forgets fs)) forgets fs 0 fs in
-    let size : length code ≡ length all = ap length items ∙ length-map all item_word in
-    let words = program_length (aimed (addresses forgets fs)) forgets fs 0 fs in
-    let most = program_most forgets (is_called fs) 0 fs in
+    let all = program_items (aimed (aims_of forgets fs)) forgets fs 0 fs in
+    let size : length code ≡ length all = ap length items ∙ words_long 0 all in
+    let words = program_length (aimed (aims_of forgets fs)) forgets fs 0 fs in
+    let most = program_most (is_near_program fs) forgets (is_called fs) 0 fs in
     omega (arith, size, words, most)
 
 pub code_is : (forgets : Forgets) (fs : List FlatFunc) (ns code : List ℕ) → ReadsNoForgotten forgets fs → IsClosed forgets fs → IsRegisterForm fs → AreNeeds fs ns → All (λ n. n ≤ 1048576) ns → flat_bulk fs ≤ 1048576
-    → code ≡ map item_word (program_items (aimed (addresses forgets fs)) forgets fs 0 fs) → AllFit (program_items (aimed (addresses forgets fs)) forgets fs 0 fs) → IsCodeOf fs (aimed (addresses forgets fs)) forgets (λ g. get_or ns g 0) code
+    → code ≡ words_at 0 (program_items (aimed (aims_of forgets fs)) forgets fs 0 fs) → AllFit (program_items (aimed (aims_of forgets fs)) forgets fs 0 fs) → IsCodeOf fs (aimed (aims_of forgets fs)) forgets (λ g. get_or ns g 0) code
 code_is forgets fs ns code dead closed form is few fit items all_fit = record {
   form = form;
   items = items;
   fit = all_fit;
   few = let most = code_most forgets fs code items in omega (arith, most, fit);
+  reach = λ near. (let most = code_most forgets fs code items in let small : flat_bulk fs ≤ 262144 = grind (arith, nat_tests) in omega (arith, most, small));
   aimed = aimed_at forgets fs;
   dead = dead;
   needs = λ n f there.
@@ -258,7 +260,7 @@ entry_at offsets ns n (g ∷ rest) (suc k) f e there at =
 record Stands (targets : Targets) (forgets : Forgets) (fs : List FlatFunc) (place n : ℕ) (rest : List FlatFunc) (k : ℕ) (f : FlatFunc) : Type 0 where
   at : ℕ
   there : slice_get (places targets forgets fs place n rest) k ≡ Some at
-  entry : get_or (map offset_of (entries forgets (is_called fs) place n rest)) k 0 ≡ 4 * entry_place targets forgets fs at (n + k) f
+  entry : get_or (map offset_of (entries targets.near forgets (is_called fs) place n rest)) k 0 ≡ 4 * entry_place targets forgets fs at (n + k) f
 
 stands : (targets : Targets) (forgets : Forgets) (fs : List FlatFunc) (place n : ℕ) (rest : List FlatFunc) (k : ℕ) (f : FlatFunc) → slice_get rest k ≡ Some f → Stands targets forgets fs place n rest k f
 stands targets forgets fs place n [] k f is = absurd (cc)
@@ -280,7 +282,7 @@ stands targets forgets fs place n (g ∷ rest) (suc k) f is =
       at = next.at;
       there = next.there;
       entry =
-          ap (λ w. get_or (map offset_of (entries forgets (is_called fs) (place + w) (n + 1) rest)) k 0) (sym (function_length targets forgets fs n g))
+          ap (λ w. get_or (map offset_of (entries targets.near forgets (is_called fs) (place + w) (n + 1) rest)) k 0) (sym (function_length targets forgets fs n g))
           ∙ next.entry
           ∙ ap (λ q. 4 * entry_place targets forgets fs next.at q f) number;
     }
@@ -290,40 +292,40 @@ abbrev pub CodeShows : Type 0
 CodeShows = (fs : List FlatFunc) (targets : Targets) (forgets : Forgets) (need : ℕ → ℕ) (code : List ℕ) → IsCodeOf fs targets forgets need code → (n : ℕ) (f : FlatFunc) (place : ℕ)
     → slice_get fs n ≡ Some f → slice_get (places targets forgets fs 0 0 fs) n ≡ Some place → need n ≤ 1048576 → ShowsFunction fs targets forgets need code n f place
 
-pub shows : (forgets : Forgets) (fs : List FlatFunc) (ns code : List ℕ) (es : List Entry) → CodeShows → IsCodeOf fs (aimed (addresses forgets fs)) forgets (λ g. get_or ns g 0) code → AreNeeds fs ns → All (λ n. n ≤ 1048576) ns
+pub shows : (forgets : Forgets) (fs : List FlatFunc) (ns code : List ℕ) (es : List Entry) → CodeShows → IsCodeOf fs (aimed (aims_of forgets fs)) forgets (λ g. get_or ns g 0) code → AreNeeds fs ns → All (λ n. n ≤ 1048576) ns
     → es ≡ entries_of (entry_offsets forgets fs) ns 0 fs → ShowsProgram fs es code
 shows forgets fs ns code es law is needs_are few are n f e there at fuel args count words m data_is answers words' j left =
     let number : 0 + n ≡ n = omega arith in
-    let stand = stands (aimed (addresses forgets fs)) forgets fs 0 0 fs n f there in
+    let stand = stands (aimed (aims_of forgets fs)) forgets fs 0 0 fs n f there in
     let less = need_few fs ns needs_are few n f there in
     let entry : e ≡ entry_of f (get_or (entry_offsets forgets fs) n 0) (get_or ns n 0) =
     entry_at (entry_offsets forgets fs) ns 0 fs n f e there (ap (λ q. slice_get q n) (sym are) ∙ at) ∙ ap (λ q. entry_of f (get_or (entry_offsets forgets fs) q 0) (get_or ns q 0)) number in
-    let offset : e.offset ≡ 4 * entry_place (aimed (addresses forgets fs)) forgets fs stand.at n f =
-    ap (λ q. q.offset) entry ∙ stand.entry ∙ ap (λ q. 4 * entry_place (aimed (addresses forgets fs)) forgets fs stand.at q f) number in
+    let offset : e.offset ≡ 4 * entry_place (aimed (aims_of forgets fs)) forgets fs stand.at n f =
+    ap (λ q. q.offset) entry ∙ stand.entry ∙ ap (λ q. 4 * entry_place (aimed (aims_of forgets fs)) forgets fs stand.at q f) number in
     let need_is : e.need ≡ get_or ns n 0 = ap (λ q. q.need) entry in
-    let shown = law fs (aimed (addresses forgets fs)) forgets (λ g. get_or ns g 0) code is n f stand.at there stand.there less fuel args count words m data_is answers words' j left in
+    let shown = law fs (aimed (aims_of forgets fs)) forgets (λ g. get_or ns g 0) code is n f stand.at there stand.there less fuel args count words m data_is answers words' j left in
     subst (λ o. EntryShown code o args m answers j fuel e.need ((fuel + 1) * flat_bulk fs) (λ choices. call fs n args m answers choices fuel)) (sym offset)
-    (subst (λ d. EntryShown code (4 * entry_place (aimed (addresses forgets fs)) forgets fs stand.at n f) args m answers j fuel d ((fuel + 1) * flat_bulk fs) (λ choices. call fs n args m answers choices fuel)) (sym need_is) shown)
+    (subst (λ d. EntryShown code (4 * entry_place (aimed (aims_of forgets fs)) forgets fs stand.at n f) args m answers j fuel d ((fuel + 1) * flat_bulk fs) (λ choices. call fs n args m answers choices fuel)) (sym need_is) shown)
 
 -- ---- limits
 
-entries_inside : (forgets : Forgets) (called : ℕ → Bool) (place n : ℕ) (rest : List FlatFunc) (words : ℕ) → place + program_words forgets called n rest ≤ words → All (IsOffset words) (map offset_of (entries forgets called place n rest))
-entries_inside forgets called place n [] words few = All-nil (IsOffset words)
-entries_inside forgets called place n (f ∷ rest) words few =
-    All-cons (IsOffset words) (offset_of (if called n then place + callable_words forgets n f else place)) (map offset_of (entries forgets called (place + function_words forgets (called n) n f) (n + 1) rest))
+entries_inside : (near : Bool) (forgets : Forgets) (called : ℕ → Bool) (place n : ℕ) (rest : List FlatFunc) (words : ℕ) → place + program_words near forgets called n rest ≤ words → All (IsOffset words) (map offset_of (entries near forgets called place n rest))
+entries_inside near forgets called place n [] words few = All-nil (IsOffset words)
+entries_inside near forgets called place n (f ∷ rest) words few =
+    All-cons (IsOffset words) (offset_of (if called n then place + callable_words near forgets n f else place)) (map offset_of (entries near forgets called (place + function_words near forgets (called n) n f) (n + 1) rest))
     (here (called n) few)
-    (entries_inside forgets called (place + function_words forgets (called n) n f) (n + 1) rest words (omega (arith, few)))
+    (entries_inside near forgets called (place + function_words near forgets (called n) n f) (n + 1) rest words (omega (arith, few)))
   where
-    here : (b : Bool) → place + (function_words forgets b n f + program_words forgets called (n + 1) rest) ≤ words → IsOffset words (offset_of (if b then place + callable_words forgets n f else place))
+    here : (b : Bool) → place + (function_words near forgets b n f + program_words near forgets called (n + 1) rest) ≤ words → IsOffset words (offset_of (if b then place + callable_words near forgets n f else place))
     here true few = record { aligned = omega arith; inside = omega (arith, few) }
     here false few = record { aligned = omega arith; inside = omega (arith, few) }
 
-pub offsets_inside : (forgets : Forgets) (fs : List FlatFunc) (offsets code : List ℕ) → code ≡ map item_word (program_items (aimed (addresses forgets fs)) forgets fs 0 fs) → offsets ≡ entry_offsets forgets fs → All (IsOffset (length code)) offsets
+pub offsets_inside : (forgets : Forgets) (fs : List FlatFunc) (offsets code : List ℕ) → code ≡ words_at 0 (program_items (aimed (aims_of forgets fs)) forgets fs 0 fs) → offsets ≡ entry_offsets forgets fs → All (IsOffset (length code)) offsets
 offsets_inside forgets fs offsets code items are =
-    let all = program_items (aimed (addresses forgets fs)) forgets fs 0 fs in
-    let size : length code ≡ length all = ap length items ∙ length-map all item_word in
-    let long = program_length (aimed (addresses forgets fs)) forgets fs 0 fs in
-    subst (All (IsOffset (length code))) (sym are) (entries_inside forgets (is_called fs) 0 0 fs (length code) (omega (arith, size, long)))
+    let all = program_items (aimed (aims_of forgets fs)) forgets fs 0 fs in
+    let size : length code ≡ length all = ap length items ∙ words_long 0 all in
+    let long = program_length (aimed (aims_of forgets fs)) forgets fs 0 fs in
+    subst (All (IsOffset (length code))) (sym are) (entries_inside (is_near_program fs) forgets (is_called fs) 0 0 fs (length code) (omega (arith, size, long)))
 
 each_in_limits : (words : ℕ) (offsets ns : List ℕ) (n : ℕ) (rest : List FlatFunc) → ((k : ℕ) (f : FlatFunc) → slice_get rest k ≡ Some f → EntryInLimits words (entry_of f (get_or offsets (n + k) 0) (get_or ns (n + k) 0)))
     → All (EntryInLimits words) (entries_of offsets ns n rest)

@@ -1,7 +1,6 @@
 -- What has to hold before code is written, of pieces one after another.
-use Rattle.std.proofs.Common.{◌≡◌, ℕ, ◌+◌, ◌-◌, ◌<◌, ◌≤◌, ◌≢◌, ◌==◌, ◌||◌, Bool, true, false, List, [], ◌∷◌, ◌++◌, map, length, drop, refl, sym, ap, subst, ◌∙◌, arith, append_assoc, append-nil, length-append}
-use Rattle.std.proofs.lemmas.List.{map-append}
-use Rattle.br_emit.specs.Code.{Item, item_word, AllFit}
+use Rattle.std.proofs.Common.{◌≡◌, ℕ, suc, ◌+◌, ◌-◌, ◌<◌, ◌≤◌, ◌≢◌, ◌==◌, ◌||◌, Bool, true, false, List, [], ◌∷◌, ◌++◌, length, drop, refl, sym, ap, subst, ◌∙◌, arith, append_assoc, append-nil, length-append}
+use Rattle.br_emit.specs.Code.{Item, item_word, words_at, AllFit}
 use Rattle.br_emit.specs.Sizes.{IsFront}
 use Rattle.std.specs.Prelude.{slice_set, get_or}
 use Rattle.std.proofs.lemmas.List.{get_or-set_same, get_or-set_other, length-set}
@@ -11,6 +10,16 @@ use Rattle.br_emit.specs.Buffer.{Written, appended, Noted, noted}
 use Rattle.br_emit.specs.Marks.{marked}
 use Rattle.br_emit.specs.Ready.{Ready}
 
+pub words_long : (place : ℕ) (items : List Item) → length (words_at place items) ≡ length items
+words_long place [] = refl
+words_long place (i ∷ items) = let rest = words_long (place + 1) items in omega (arith, rest)
+
+pub words_both : (place : ℕ) (a b : List Item) → words_at place (a ++ b) ≡ words_at place a ++ words_at (place + length a) b
+words_both place [] b = let here : place ≡ place + 0 = omega arith in ap (λ q. words_at q b) here
+words_both place (i ∷ a) b =
+    let there : place + 1 + length a ≡ place + suc (length a) = omega arith in
+    ap (λ q. item_word place i ∷ q) (words_both (place + 1) a b ∙ ap (λ q. words_at (place + 1) a ++ words_at q b) there)
+
 pub appended_nothing : (w : Written) → appended w [] ≡ w
 appended_nothing w =
     let same : w.words ++ [] ≡ w.words = append-nil w.words in
@@ -19,10 +28,13 @@ appended_nothing w =
 
 pub appended_twice : (w : Written) (a b : List Item) → appended (appended w a) b ≡ appended w (a ++ b)
 appended_twice w a b =
-    let words : w.words ++ map item_word a ++ map item_word b ≡ w.words ++ map item_word (a ++ b) = append_assoc w.words (map item_word a) (map item_word b) ∙ ap (λ q. w.words ++ q) (sym (map-append item_word a b)) in
+    let at = length w.words in
+    let long : length (w.words ++ words_at at a) ≡ at + length a = length-append w.words (words_at at a) ∙ ap (λ n. at + n) (words_long at a) in
+    let words : w.words ++ words_at at a ++ words_at (length (w.words ++ words_at at a)) b ≡ w.words ++ words_at at (a ++ b) =
+    ap (λ q. w.words ++ words_at at a ++ words_at q b) long ∙ append_assoc w.words (words_at at a) (words_at (at + length a) b) ∙ ap (λ q. w.words ++ q) (sym (words_both at a b)) in
     let size = length-append a b in
     let room : w.room - length a - length b ≡ w.room - length (a ++ b) = omega arith in
-    ap (λ q. record { words = q; room = w.room - length a - length b }) words ∙ ap (λ q. record { words = w.words ++ map item_word (a ++ b); room = q }) room
+    ap (λ q. record { words = q; room = w.room - length a - length b }) words ∙ ap (λ q. record { words = w.words ++ words_at at (a ++ b); room = q }) room
 
 pub fit_front : (a b : List Item) → AllFit (a ++ b) → AllFit a
 fit_front [] b fit = tt

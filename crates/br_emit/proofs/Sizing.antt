@@ -5,8 +5,8 @@ use Rattle.br_flatimp.specs.declared.program.Stmt.{Stmt, map-Stmt, roll-Stmt}
 use Rattle.br_flatimp.specs.declared.program.Stmt.TheOpen.{Stmt-F}
 use Rattle.br_flatimp.specs.declared.program.Stmt.TheFolds.{fold-roll-Stmt, ind-Stmt}
 use Rattle.br_flatimp.specs.Sizes.{words_for}
-use Rattle.br_emit.specs.Code.{Item, Targets, Branching, branching, otherwise, place_items, jump_items, over_items, skip_items, back_items, if_items, loop_items, table_words, table_items, in_turn_items, statement_items, items_of, all_items}
-use Rattle.br_emit.specs.Sizes.{jump_words, over_words, skip_words, back_words, if_head_items, if_middle_items, loop_head_items, if_head_words, if_middle_words, loop_head_words, Sized, sized_in_turn, sized_if, sized_loop, statement_sized, sized, sized_all}
+use Rattle.br_emit.specs.Code.{Item, Targets, Branching, branching, otherwise, place_items, jump_items, over_items, skip_items, back_items, if_items, loop_items, table_words, table_items, in_turn_items, call_items, statement_items, items_of, all_items}
+use Rattle.br_emit.specs.Sizes.{call_words, jump_words, over_words, skip_words, back_words, if_head_items, if_middle_items, loop_head_items, if_head_words, if_middle_words, loop_head_words, Sized, sized_in_turn, sized_if, sized_loop, statement_sized, sized, sized_all}
 
 -- ---- pieces
 
@@ -142,10 +142,14 @@ table_length x size bytes y =
 
 -- ---- statements
 
-abbrev WordsAre : Targets → Stmt → Type 0
-WordsAre targets st = (free : ℕ) → (sized st free).words ≡ length (items_of targets st free)
+pub call_length : (near : Bool) (target : ℕ) → length (call_items near target) ≡ call_words near
+call_length true target = refl
+call_length false target = refl
 
-in_turn_words : (targets : Targets) (cs : List ((st : Stmt) × WordsAre targets st)) (free : ℕ) → (sized_in_turn (map sized (map (λ e. e.0) cs)) free).words ≡ length (in_turn_items (map (items_of targets) (map (λ e. e.0) cs)) free)
+abbrev WordsAre : Targets → Stmt → Type 0
+WordsAre targets st = (free : ℕ) → (sized targets.near st free).words ≡ length (items_of targets st free)
+
+in_turn_words : (targets : Targets) (cs : List ((st : Stmt) × WordsAre targets st)) (free : ℕ) → (sized_in_turn (map (sized targets.near) (map (λ e. e.0) cs)) free).words ≡ length (in_turn_items (map (items_of targets) (map (λ e. e.0) cs)) free)
 in_turn_words targets [] free = refl
 in_turn_words targets (c ∷ cs) free =
     let here = c.1 free in
@@ -180,7 +184,7 @@ loop_words c first last a b is_a is_b =
     same ∙ omega arith
 
 layer_words : (targets : Targets) (y : Stmt-F ((st : Stmt) × WordsAre targets st)) (free : ℕ)
-    → (let z = map-Stmt ((st : Stmt) × WordsAre targets st) Stmt (λ e. e.0) y in (statement_sized (map-Stmt Stmt (ℕ → Sized) sized z) free).words ≡ length (statement_items targets (map-Stmt Stmt (ℕ → List Item) (items_of targets) z) free))
+    → (let z = map-Stmt ((st : Stmt) × WordsAre targets st) Stmt (λ e. e.0) y in (statement_sized targets.near (map-Stmt Stmt (ℕ → Sized) (sized targets.near) z) free).words ≡ length (statement_items targets (map-Stmt Stmt (ℕ → List Item) (items_of targets) z) free))
 layer_words targets (Stmt-F.Lit x n) free = refl
 layer_words targets (Stmt-F.Copy x y) free = refl
 layer_words targets (Stmt-F.Op x o y z) free = refl
@@ -193,13 +197,13 @@ layer_words targets (Stmt-F.Stackalloc x n body) free =
     omega arith
 layer_words targets (Stmt-F.If test first second) free =
     if_words (branching test) (in_turn_items (map (items_of targets) (map (λ e. e.0) first)) free) (in_turn_items (map (items_of targets) (map (λ e. e.0) second)) free)
-    (sized_in_turn (map sized (map (λ e. e.0) first)) free) (sized_in_turn (map sized (map (λ e. e.0) second)) free)
+    (sized_in_turn (map (sized targets.near) (map (λ e. e.0) first)) free) (sized_in_turn (map (sized targets.near) (map (λ e. e.0) second)) free)
     (in_turn_words targets first free) (in_turn_words targets second free)
 layer_words targets (Stmt-F.Loop first test last) free =
     loop_words (branching test) (in_turn_items (map (items_of targets) (map (λ e. e.0) first)) free) (in_turn_items (map (items_of targets) (map (λ e. e.0) last)) free)
-    (sized_in_turn (map sized (map (λ e. e.0) first)) free) (sized_in_turn (map sized (map (λ e. e.0) last)) free)
+    (sized_in_turn (map (sized targets.near) (map (λ e. e.0) first)) free) (sized_in_turn (map (sized targets.near) (map (λ e. e.0) last)) free)
     (in_turn_words targets first free) (in_turn_words targets last free)
-layer_words targets (Stmt-F.Call xs g ys) free = refl
+layer_words targets (Stmt-F.Call xs g ys) free = sym (call_length targets.near (targets.at g))
 layer_words targets (Stmt-F.Read x y) free = refl
 layer_words targets (Stmt-F.Write y z) free = refl
 
@@ -209,11 +213,11 @@ words_are targets = ind-Stmt (WordsAre targets) (λ x y is. subst (λ z. WordsAr
     layer : (y : Stmt-F ((st : Stmt) × WordsAre targets st)) → WordsAre targets (roll-Stmt (map-Stmt ((st : Stmt) × WordsAre targets st) Stmt (λ e. e.0) y))
     layer y free =
         let z = map-Stmt ((st : Stmt) × WordsAre targets st) Stmt (λ e. e.0) y in
-        ap (λ f. (f free).words) (fold-roll-Stmt (ℕ → Sized) statement_sized z)
+        ap (λ f. (f free).words) (fold-roll-Stmt (ℕ → Sized) (statement_sized targets.near) z)
         ∙ layer_words targets y free
         ∙ sym (ap (λ f. length (f free)) (fold-roll-Stmt (ℕ → List Item) (statement_items targets) z))
 
-pub all_words_are : (targets : Targets) (body : List Stmt) (free : ℕ) → (sized_all body free).words ≡ length (all_items targets body free)
+pub all_words_are : (targets : Targets) (body : List Stmt) (free : ℕ) → (sized_all targets.near body free).words ≡ length (all_items targets body free)
 all_words_are targets [] free = refl
 all_words_are targets (st ∷ body) free =
     let here = words_are targets st free in

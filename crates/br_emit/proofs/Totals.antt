@@ -16,10 +16,10 @@ use Rattle.br_rv32im.specs.declared.instruction.Ins.TheVariants.{Imm, Reg, Ecall
 use Rattle.br_rv32im.specs.declared.instruction.ImmOp.TheVariants.{Addi}
 use Rattle.std.specs.Prelude.{pos}
 use Rattle.br_rv32im.specs.declared.instruction.RegOp.TheVariants.{Add}
-use Rattle.br_emit.specs.Code.{Does, Targets, low_part, constant_items, copy_items, op_items, is_short, place_items, saves, save_items, restore_items, move_items, exit_items, saved_bytes, all_items, callable_items, entry_items, stack_items, direct_items, is_called, function_items, program_items, places}
-use Rattle.br_emit.specs.Sizes.{jump_words, over_words, skip_words, back_words, if_head_words, if_middle_words, loop_head_words, Sized, sized_of_words, sized_in_turn, sized_if, sized_loop, statement_sized, sized, sized_all, callable_words, direct_words, function_words, begins, program_words}
+use Rattle.br_emit.specs.Code.{Does, Targets, low_part, constant_items, copy_items, op_items, is_short, place_items, saves, save_items, restore_items, move_items, exit_items, saved_bytes, all_items, callable_items, entry_items, stack_items, direct_items, call_items, is_called, function_items, program_items, places}
+use Rattle.br_emit.specs.Sizes.{call_words, jump_words, over_words, skip_words, back_words, if_head_words, if_middle_words, loop_head_words, Sized, sized_of_words, sized_in_turn, sized_if, sized_loop, statement_sized, sized, sized_all, callable_words, direct_words, function_words, begins, program_words}
 use Rattle.br_emit.proofs.Saving.{saves_few}
-use Rattle.br_emit.proofs.Sizing.{all_words_are}
+use Rattle.br_emit.proofs.Sizing.{call_length, all_words_are}
 
 fold_from : (a : ℕ) (xs : List ℕ) → fold ◌+◌ a xs ≡ a + sum xs
 fold_from a [] = omega arith
@@ -127,29 +127,33 @@ move_most n = by (n == 0) (is_short n)
 
 -- ---- statements
 
--- a statement's words and the lengths in it are at most its bulk
-record Bounded (st : Stmt) (free : ℕ) : Type 0 where
-  words : (sized st free).words ≤ statement_bulk st
-  parts : length (sized st free).parts ≤ statement_bulk st
+call_most : (near : Bool) → call_words near ≤ 2
+call_most true = omega arith
+call_most false = omega arith
 
-abbrev AllBounded : Stmt → Type 0
-AllBounded st = (free : ℕ) → Bounded st free
+-- a statement's words and the lengths in it are at most its bulk
+record Bounded (near : Bool) (st : Stmt) (free : ℕ) : Type 0 where
+  words : (sized near st free).words ≤ statement_bulk st
+  parts : length (sized near st free).parts ≤ statement_bulk st
+
+abbrev AllBounded : Bool → Stmt → Type 0
+AllBounded near st = (free : ℕ) → Bounded near st free
 
 pub record SizedWithin (s : Sized) (bulk : ℕ) : Type 0 where
   pub words : s.words ≤ bulk
   pub parts : length s.parts ≤ bulk
 
-in_turn_within : (cs : List ((st : Stmt) × AllBounded st)) (free : ℕ) → SizedWithin (sized_in_turn (map sized (map (λ e. e.0) cs)) free) (sum (map statement_bulk (map (λ e. e.0) cs)))
-in_turn_within [] free = record { words = omega arith; parts = omega arith }
-in_turn_within (c ∷ cs) free =
+in_turn_within : (near : Bool) (cs : List ((st : Stmt) × AllBounded near st)) (free : ℕ) → SizedWithin (sized_in_turn (map (sized near) (map (λ e. e.0) cs)) free) (sum (map statement_bulk (map (λ e. e.0) cs)))
+in_turn_within near [] free = record { words = omega arith; parts = omega arith }
+in_turn_within near (c ∷ cs) free =
     let here = c.1 free in
     let words = here.words in
     let parts = here.parts in
-    let rest = in_turn_within cs free in
+    let rest = in_turn_within near cs free in
     let words' = rest.words in
     let parts' = rest.parts in
     let added = sum_cons (statement_bulk c.0) (map statement_bulk (map (λ e. e.0) cs)) in
-    let size = length-append (sized c.0 free).parts (sized_in_turn (map sized (map (λ e. e.0) cs)) free).parts in
+    let size = length-append (sized near c.0 free).parts (sized_in_turn (map (sized near) (map (λ e. e.0) cs)) free).parts in
     record { words = omega arith; parts = omega arith }
 
 if_within : (a b : Sized) (m n k : ℕ) → k ≡ 5 + (m + n) → SizedWithin a m → SizedWithin b n → SizedWithin (sized_if a b) k
@@ -177,57 +181,57 @@ loop_within a b m n whole is h k =
 leaf_within : (n m : ℕ) → n ≤ m → SizedWithin (sized_of_words n) (m + 0)
 leaf_within n m h = record { words = omega arith; parts = omega arith }
 
-layer_within : (y : Stmt-F ((st : Stmt) × AllBounded st)) (free : ℕ)
-    → (let z = map-Stmt ((st : Stmt) × AllBounded st) Stmt (λ e. e.0) y in let bulks = map-Stmt Stmt ℕ statement_bulk z in SizedWithin (statement_sized (map-Stmt Stmt (ℕ → Sized) sized z) free) (own_words bulks + sum (map sum (parts bulks))))
-layer_within (Stmt-F.Lit x n) free = leaf_within _ 2 (constant_most x n)
-layer_within (Stmt-F.Copy x y) free = leaf_within _ 1 (copy_most x y)
-layer_within (Stmt-F.Op x o y z) free = leaf_within _ 2 (op_most x o y z)
-layer_within (Stmt-F.Load x size y offset) free = leaf_within _ 1 (omega arith)
-layer_within (Stmt-F.Store size y z offset) free = leaf_within _ 1 (omega arith)
-layer_within (Stmt-F.Table x size bytes y) free =
+layer_within : (near : Bool) (y : Stmt-F ((st : Stmt) × AllBounded near st)) (free : ℕ)
+    → (let z = map-Stmt ((st : Stmt) × AllBounded near st) Stmt (λ e. e.0) y in let bulks = map-Stmt Stmt ℕ statement_bulk z in SizedWithin (statement_sized near (map-Stmt Stmt (ℕ → Sized) (sized near) z) free) (own_words bulks + sum (map sum (parts bulks))))
+layer_within near (Stmt-F.Lit x n) free = leaf_within _ 2 (constant_most x n)
+layer_within near (Stmt-F.Copy x y) free = leaf_within _ 1 (copy_most x y)
+layer_within near (Stmt-F.Op x o y z) free = leaf_within _ 2 (op_most x o y z)
+layer_within near (Stmt-F.Load x size y offset) free = leaf_within _ 1 (omega arith)
+layer_within near (Stmt-F.Store size y z offset) free = leaf_within _ 1 (omega arith)
+layer_within near (Stmt-F.Table x size bytes y) free =
     let over = over_most (words_for (length bytes)) in
     leaf_within (over_words (words_for (length bytes)) + words_for (length bytes) + 2) (4 + words_for (length bytes)) (omega arith)
-layer_within (Stmt-F.Stackalloc x n body) free =
-    let rest = in_turn_within body (free - n) in
+layer_within near (Stmt-F.Stackalloc x n body) free =
+    let rest = in_turn_within near body (free - n) in
     let words' = rest.words in
     let parts' = rest.parts in
     let place = place_most x (free - n) in
     record { words = omega arith; parts = omega arith }
-layer_within (Stmt-F.If test first second) free =
-    if_within (sized_in_turn (map sized (map (λ e. e.0) first)) free) (sized_in_turn (map sized (map (λ e. e.0) second)) free)
+layer_within near (Stmt-F.If test first second) free =
+    if_within (sized_in_turn (map (sized near) (map (λ e. e.0) first)) free) (sized_in_turn (map (sized near) (map (λ e. e.0) second)) free)
     (sum (map statement_bulk (map (λ e. e.0) first))) (sum (map statement_bulk (map (λ e. e.0) second))) _ (omega arith)
-    (in_turn_within first free) (in_turn_within second free)
-layer_within (Stmt-F.Loop first test last) free =
-    loop_within (sized_in_turn (map sized (map (λ e. e.0) first)) free) (sized_in_turn (map sized (map (λ e. e.0) last)) free)
+    (in_turn_within near first free) (in_turn_within near second free)
+layer_within near (Stmt-F.Loop first test last) free =
+    loop_within (sized_in_turn (map (sized near) (map (λ e. e.0) first)) free) (sized_in_turn (map (sized near) (map (λ e. e.0) last)) free)
     (sum (map statement_bulk (map (λ e. e.0) first))) (sum (map statement_bulk (map (λ e. e.0) last))) _ (omega arith)
-    (in_turn_within first free) (in_turn_within last free)
-layer_within (Stmt-F.Call xs g ys) free = leaf_within _ 2 (omega arith)
-layer_within (Stmt-F.Read x y) free = leaf_within _ 1 (omega arith)
-layer_within (Stmt-F.Write y z) free = leaf_within _ 1 (omega arith)
+    (in_turn_within near first free) (in_turn_within near last free)
+layer_within near (Stmt-F.Call xs g ys) free = leaf_within _ 2 (call_most near)
+layer_within near (Stmt-F.Read x y) free = leaf_within _ 1 (omega arith)
+layer_within near (Stmt-F.Write y z) free = leaf_within _ 1 (omega arith)
 
-bounded : (st : Stmt) → AllBounded st
-bounded = ind-Stmt AllBounded (λ x y is. subst (λ z. AllBounded (roll-Stmt z)) is (layer y))
+bounded : (near : Bool) (st : Stmt) → AllBounded near st
+bounded near = ind-Stmt (AllBounded near) (λ x y is. subst (λ z. AllBounded near (roll-Stmt z)) is (layer y))
   where
-    layer : (y : Stmt-F ((st : Stmt) × AllBounded st)) → AllBounded (roll-Stmt (map-Stmt ((st : Stmt) × AllBounded st) Stmt (λ e. e.0) y))
+    layer : (y : Stmt-F ((st : Stmt) × AllBounded near st)) → AllBounded near (roll-Stmt (map-Stmt ((st : Stmt) × AllBounded near st) Stmt (λ e. e.0) y))
     layer y free =
-        let z = map-Stmt ((st : Stmt) × AllBounded st) Stmt (λ e. e.0) y in
-        let within = layer_within y free in
-        let size = fold-roll-Stmt (ℕ → Sized) statement_sized z in
+        let z = map-Stmt ((st : Stmt) × AllBounded near st) Stmt (λ e. e.0) y in
+        let within = layer_within near y free in
+        let size = fold-roll-Stmt (ℕ → Sized) (statement_sized near) z in
         let bulk = fold-roll-Stmt ℕ (λ y. own_words y + sum (map sum (parts y))) z in
-        let both = subst (λ f. SizedWithin (f free) (statement_bulk (roll-Stmt z))) (sym size) (subst (λ n. SizedWithin (statement_sized (map-Stmt Stmt (ℕ → Sized) sized z) free) n) (sym bulk) within) in
+        let both = subst (λ f. SizedWithin (f free) (statement_bulk (roll-Stmt z))) (sym size) (subst (λ n. SizedWithin (statement_sized near (map-Stmt Stmt (ℕ → Sized) (sized near) z) free) n) (sym bulk) within) in
         record { words = both.words; parts = both.parts }
 
-pub all_within : (body : List Stmt) (free : ℕ) → SizedWithin (sized_all body free) (sum (map statement_bulk body))
-all_within [] free = record { words = omega arith; parts = omega arith }
-all_within (st ∷ body) free =
-    let here = bounded st free in
+pub all_within : (near : Bool) (body : List Stmt) (free : ℕ) → SizedWithin (sized_all near body free) (sum (map statement_bulk body))
+all_within near [] free = record { words = omega arith; parts = omega arith }
+all_within near (st ∷ body) free =
+    let here = bounded near st free in
     let words = here.words in
     let parts = here.parts in
-    let rest = all_within body free in
+    let rest = all_within near body free in
     let words' = rest.words in
     let parts' = rest.parts in
     let added = sum_cons (statement_bulk st) (map statement_bulk body) in
-    let size = length-append (sized st free).parts (sized_all body free).parts in
+    let size = length-append (sized near st free).parts (sized_all near body free).parts in
     record { words = omega arith; parts = omega arith }
 
 -- ---- functions
@@ -240,7 +244,7 @@ restore_length : (i : ℕ) (rs : List ℕ) → length (restore_items i rs) ≡ l
 restore_length i [] = refl
 restore_length i (r ∷ rs) = let rest = restore_length (i + 1) rs in omega arith
 
-pub callable_length : (targets : Targets) (forgets : Forgets) (n : ℕ) (f : FlatFunc) → length (callable_items targets forgets n f) ≡ callable_words forgets n f
+pub callable_length : (targets : Targets) (forgets : Forgets) (n : ℕ) (f : FlatFunc) → length (callable_items targets forgets n f) ≡ callable_words targets.near forgets n f
 callable_length targets forgets n f =
     let rs = saves forgets n f in
     let bytes = saved_bytes forgets n f in
@@ -257,21 +261,27 @@ callable_length targets forgets n f =
     let words = all_words_are targets f.body (nest f) in
     omega arith
 
-pub direct_length : (targets : Targets) (f : FlatFunc) → length (direct_items targets f) ≡ direct_words f
+pub direct_length : (targets : Targets) (f : FlatFunc) → length (direct_items targets f) ≡ direct_words targets.near f
 direct_length targets f =
     let s1 = length-append (stack_items f) (all_items targets f.body (nest f) ++ Does Ecall ∷ []) in
     let s2 = length-append (all_items targets f.body (nest f)) (Does Ecall ∷ []) in
     let words = all_words_are targets f.body (nest f) in
     omega arith
 
-pub function_length : (targets : Targets) (forgets : Forgets) (fs : List FlatFunc) (n : ℕ) (f : FlatFunc) → length (function_items targets forgets fs n f) ≡ function_words forgets (is_called fs n) n f
+pub entry_length : (near : Bool) (target : ℕ) → length (entry_items near target) ≡ 2 + call_words near
+entry_length near target =
+    let size = length-append (call_items near target) (Does Ecall ∷ []) in
+    let call = call_length near target in
+    omega arith
+
+pub function_length : (targets : Targets) (forgets : Forgets) (fs : List FlatFunc) (n : ℕ) (f : FlatFunc) → length (function_items targets forgets fs n f) ≡ function_words targets.near forgets (is_called fs n) n f
 function_length targets forgets fs n f = by (is_called fs n) refl
   where
-    by : (b : Bool) → is_called fs n ≡ b → length (function_items targets forgets fs n f) ≡ function_words forgets (is_called fs n) n f
-    by true e = rw e (let size = length-append (callable_items targets forgets n f) (entry_items (targets n)) in let words = callable_length targets forgets n f in omega arith)
+    by : (b : Bool) → is_called fs n ≡ b → length (function_items targets forgets fs n f) ≡ function_words targets.near forgets (is_called fs n) n f
+    by true e = rw e (let size = length-append (callable_items targets forgets n f) (entry_items targets.near (targets.at n)) in let words = callable_length targets forgets n f in let entry = entry_length targets.near (targets.at n) in omega arith)
     by false e = rw e (direct_length targets f)
 
-pub program_length : (targets : Targets) (forgets : Forgets) (fs : List FlatFunc) (n : ℕ) (rest : List FlatFunc) → length (program_items targets forgets fs n rest) ≡ program_words forgets (is_called fs) n rest
+pub program_length : (targets : Targets) (forgets : Forgets) (fs : List FlatFunc) (n : ℕ) (rest : List FlatFunc) → length (program_items targets forgets fs n rest) ≡ program_words targets.near forgets (is_called fs) n rest
 program_length targets forgets fs n [] = refl
 program_length targets forgets fs n (f ∷ rest) =
     let size = length-append (function_items targets forgets fs n f) (program_items targets forgets fs (n + 1) rest) in
@@ -279,37 +289,38 @@ program_length targets forgets fs n (f ∷ rest) =
     let there = program_length targets forgets fs (n + 1) rest in
     omega arith
 
-pub callable_most : (forgets : Forgets) (n : ℕ) (f : FlatFunc) → callable_words forgets n f + 4 ≤ function_bulk f
-callable_most forgets n f =
+pub callable_most : (near : Bool) (forgets : Forgets) (n : ℕ) (f : FlatFunc) → callable_words near forgets n f + (2 + call_words near) ≤ function_bulk f
+callable_most near forgets n f =
     let few = saves_few forgets n f in
-    let within = all_within f.body (nest f) in
+    let call = call_most near in
+    let within = all_within near f.body (nest f) in
     let words = within.words in
     let down = move_most ((2 ^ 32 - nest f) % 2 ^ 32) in
     let up = move_most (nest f) in
     omega arith
 
-pub direct_most : (f : FlatFunc) → direct_words f ≤ function_bulk f
-direct_most f =
-    let within = all_within f.body (nest f) in
+pub direct_most : (near : Bool) (f : FlatFunc) → direct_words near f ≤ function_bulk f
+direct_most near f =
+    let within = all_within near f.body (nest f) in
     let words = within.words in
     let stack = constant_most 2 (0x80300000 - nest f) in
     omega arith
 
-pub function_most : (forgets : Forgets) (b : Bool) (n : ℕ) (f : FlatFunc) → function_words forgets b n f ≤ function_bulk f
-function_most forgets true n f = callable_most forgets n f
-function_most forgets false n f = direct_most f
+pub function_most : (near : Bool) (forgets : Forgets) (b : Bool) (n : ℕ) (f : FlatFunc) → function_words near forgets b n f ≤ function_bulk f
+function_most near forgets true n f = callable_most near forgets n f
+function_most near forgets false n f = direct_most near f
 
-pub program_most : (forgets : Forgets) (called : ℕ → Bool) (n : ℕ) (rest : List FlatFunc) → program_words forgets called n rest ≤ flat_bulk rest
-program_most forgets called n [] = omega arith
-program_most forgets called n (f ∷ rest) =
-    let here = function_most forgets (called n) n f in
-    let there = program_most forgets called (n + 1) rest in
+pub program_most : (near : Bool) (forgets : Forgets) (called : ℕ → Bool) (n : ℕ) (rest : List FlatFunc) → program_words near forgets called n rest ≤ flat_bulk rest
+program_most near forgets called n [] = omega arith
+program_most near forgets called n (f ∷ rest) =
+    let here = function_most near forgets (called n) n f in
+    let there = program_most near forgets called (n + 1) rest in
     let added = sum_cons (function_bulk f) (map function_bulk rest) in
     omega arith
 
 -- where functions stand, by their words
-pub begins_are : (targets : Targets) (forgets : Forgets) (fs : List FlatFunc) (place n : ℕ) (rest : List FlatFunc) → begins forgets (is_called fs) place n rest ≡ places targets forgets fs place n rest
+pub begins_are : (targets : Targets) (forgets : Forgets) (fs : List FlatFunc) (place n : ℕ) (rest : List FlatFunc) → begins targets.near forgets (is_called fs) place n rest ≡ places targets forgets fs place n rest
 begins_are targets forgets fs place n [] = refl
 begins_are targets forgets fs place n (f ∷ rest) =
-    ap (λ q. place ∷ q) (ap (λ w. begins forgets (is_called fs) (place + w) (n + 1) rest) (sym (function_length targets forgets fs n f))
+    ap (λ q. place ∷ q) (ap (λ w. begins targets.near forgets (is_called fs) (place + w) (n + 1) rest) (sym (function_length targets forgets fs n f))
     ∙ begins_are targets forgets fs (place + length (function_items targets forgets fs n f)) (n + 1) rest)

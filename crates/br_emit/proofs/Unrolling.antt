@@ -112,18 +112,18 @@ test_registers (Compare r x y) h =
 pub record BufferParts (targets : Targets) (x n : ℕ) (body : List Stmt) (free : ℕ) (w : Written) (l : List ℕ) : Type 0 where
   pub register : x < 32
   pub form : IsTrue (list_all (throughout is_encodable) body)
-  pub ready : Ready (place_items x (free - n) ++ all_items targets body (free - n)) (sized_all body (free - n)).parts w l
+  pub ready : Ready (place_items x (free - n) ++ all_items targets body (free - n)) (sized_all targets.near body (free - n)).parts w l
 
 pub items_buffer : (targets : Targets) (s : Stmt) (x n : ℕ) (body : List Stmt) (free : ℕ) → s ≡ stmt.Stackalloc x n body → items_of targets s free ≡ place_items x (free - n) ++ all_items targets body (free - n)
 items_buffer targets s x n body free is =
     ap (λ z. items_of targets z free) (is ∙ sym (stmt.rolls-Stackalloc x n body)) ∙ ap (λ f. f free) (fold-roll-Stmt (ℕ → List Item) (statement_items targets) (Stmt-F.Stackalloc x n body))
 
-pub sized_buffer : (s : Stmt) (x n : ℕ) (body : List Stmt) (free : ℕ) → s ≡ stmt.Stackalloc x n body → (sized s free).parts ≡ (sized_all body (free - n)).parts
-sized_buffer s x n body free is =
-    ap (λ z. (sized z free).parts) (is ∙ sym (stmt.rolls-Stackalloc x n body)) ∙ ap (λ f. (f free).parts) (fold-roll-Stmt (ℕ → Sized) statement_sized (Stmt-F.Stackalloc x n body))
+pub sized_buffer : (near : Bool) (s : Stmt) (x n : ℕ) (body : List Stmt) (free : ℕ) → s ≡ stmt.Stackalloc x n body → (sized near s free).parts ≡ (sized_all near body (free - n)).parts
+sized_buffer near s x n body free is =
+    ap (λ z. (sized near z free).parts) (is ∙ sym (stmt.rolls-Stackalloc x n body)) ∙ ap (λ f. (f free).parts) (fold-roll-Stmt (ℕ → Sized) (statement_sized near) (Stmt-F.Stackalloc x n body))
 
 pub buffer_parts : (targets : Targets) (s : Stmt) (x n : ℕ) (body : List Stmt) (free : ℕ) (w : Written) (l : List ℕ) → s ≡ stmt.Stackalloc x n body → IsTrue (throughout is_encodable s)
-    → Ready (items_of targets s free) (sized s free).parts w l → BufferParts targets x n body free w l
+    → Ready (items_of targets s free) (sized targets.near s free).parts w l → BufferParts targets x n body free w l
 buffer_parts targets s x n body free w l is form ready =
     let rolled : throughout is_encodable s ≡ ((are_registers (x ∷ []) && true && true) && (list_all (λ ok. ok) (map (throughout is_encodable) body) && true)) =
     ap (throughout is_encodable) (is ∙ sym (stmt.rolls-Stackalloc x n body)) ∙ fold-roll-Stmt Bool (λ y. is_encodable y && list_all (list_all (λ ok. ok)) (parts y)) (Stmt-F.Stackalloc x n body) in
@@ -132,7 +132,7 @@ buffer_parts targets s x n body free w l is form ready =
     record {
       register = register_of x (and_true (nat_le 3 x && nat_le x 31) own.0);
       form = subst IsTrue (oks_map (throughout is_encodable) body) (and_true (list_all (λ ok. ok) (map (throughout is_encodable) body)) both.1);
-      ready = subst (λ p. Ready (place_items x (free - n) ++ all_items targets body (free - n)) p w l) (sized_buffer s x n body free is) (subst (λ i. Ready i (sized s free).parts w l) (items_buffer targets s x n body free is) ready);
+      ready = subst (λ p. Ready (place_items x (free - n) ++ all_items targets body (free - n)) p w l) (sized_buffer targets.near s x n body free is) (subst (λ i. Ready i (sized targets.near s free).parts w l) (items_buffer targets s x n body free is) ready);
     }
 
 pub record TwoParts (test : Cond) (first second : List Stmt) (items : List Item) (parts : List ℕ) (w : Written) (l : List ℕ) : Type 0 where
@@ -157,13 +157,13 @@ pub items_if : (targets : Targets) (s : Stmt) (test : Cond) (first second : List
 items_if targets s test first second free is =
     ap (λ z. items_of targets z free) (is ∙ sym (stmt.rolls-If test first second)) ∙ ap (λ f. f free) (fold-roll-Stmt (ℕ → List Item) (statement_items targets) (Stmt-F.If test first second))
 
-pub sized_if_parts : (s : Stmt) (test : Cond) (first second : List Stmt) (free : ℕ) → s ≡ stmt.If test first second → (sized s free).parts ≡ (sized_if (sized_all first free) (sized_all second free)).parts
-sized_if_parts s test first second free is =
-    ap (λ z. (sized z free).parts) (is ∙ sym (stmt.rolls-If test first second)) ∙ ap (λ f. (f free).parts) (fold-roll-Stmt (ℕ → Sized) statement_sized (Stmt-F.If test first second))
+pub sized_if_parts : (near : Bool) (s : Stmt) (test : Cond) (first second : List Stmt) (free : ℕ) → s ≡ stmt.If test first second → (sized near s free).parts ≡ (sized_if (sized_all near first free) (sized_all near second free)).parts
+sized_if_parts near s test first second free is =
+    ap (λ z. (sized near z free).parts) (is ∙ sym (stmt.rolls-If test first second)) ∙ ap (λ f. (f free).parts) (fold-roll-Stmt (ℕ → Sized) (statement_sized near) (Stmt-F.If test first second))
 
 pub if_ready : (targets : Targets) (s : Stmt) (test : Cond) (first second : List Stmt) (free : ℕ) (w : Written) (l : List ℕ) → s ≡ stmt.If test first second → IsTrue (throughout is_encodable s)
-    → Ready (items_of targets s free) (sized s free).parts w l
-    → TwoParts test first second (if_items (branching test) (all_items targets first free) (all_items targets second free)) (sized_if (sized_all first free) (sized_all second free)).parts w l
+    → Ready (items_of targets s free) (sized targets.near s free).parts w l
+    → TwoParts test first second (if_items (branching test) (all_items targets first free) (all_items targets second free)) (sized_if (sized_all targets.near first free) (sized_all targets.near second free)).parts w l
 if_ready targets s test first second free w l is form ready =
     let rolled : throughout is_encodable s ≡ ((true && are_registers (test_names test) && true) && (list_all (λ ok. ok) (map (throughout is_encodable) first) && (list_all (λ ok. ok) (map (throughout is_encodable) second) && true))) =
     ap (throughout is_encodable) (is ∙ sym (stmt.rolls-If test first second)) ∙ fold-roll-Stmt Bool (λ y. is_encodable y && list_all (list_all (λ ok. ok)) (parts y)) (Stmt-F.If test first second) in
@@ -173,7 +173,7 @@ if_ready targets s test first second free w l is form ready =
       registers = forms.0;
       first_form = forms.1;
       second_form = forms.2;
-      ready = subst (λ p. Ready items p w l) (sized_if_parts s test first second free is) (subst (λ i. Ready i (sized s free).parts w l) (items_if targets s test first second free is) ready);
+      ready = subst (λ p. Ready items p w l) (sized_if_parts targets.near s test first second free is) (subst (λ i. Ready i (sized targets.near s free).parts w l) (items_if targets s test first second free is) ready);
     }
 
 pub items_loop : (targets : Targets) (s : Stmt) (first : List Stmt) (test : Cond) (last : List Stmt) (free : ℕ) → s ≡ stmt.Loop first test last
@@ -181,13 +181,13 @@ pub items_loop : (targets : Targets) (s : Stmt) (first : List Stmt) (test : Cond
 items_loop targets s first test last free is =
     ap (λ z. items_of targets z free) (is ∙ sym (stmt.rolls-Loop first test last)) ∙ ap (λ f. f free) (fold-roll-Stmt (ℕ → List Item) (statement_items targets) (Stmt-F.Loop first test last))
 
-pub sized_loop_parts : (s : Stmt) (first : List Stmt) (test : Cond) (last : List Stmt) (free : ℕ) → s ≡ stmt.Loop first test last → (sized s free).parts ≡ (sized_loop (sized_all first free) (sized_all last free)).parts
-sized_loop_parts s first test last free is =
-    ap (λ z. (sized z free).parts) (is ∙ sym (stmt.rolls-Loop first test last)) ∙ ap (λ f. (f free).parts) (fold-roll-Stmt (ℕ → Sized) statement_sized (Stmt-F.Loop first test last))
+pub sized_loop_parts : (near : Bool) (s : Stmt) (first : List Stmt) (test : Cond) (last : List Stmt) (free : ℕ) → s ≡ stmt.Loop first test last → (sized near s free).parts ≡ (sized_loop (sized_all near first free) (sized_all near last free)).parts
+sized_loop_parts near s first test last free is =
+    ap (λ z. (sized near z free).parts) (is ∙ sym (stmt.rolls-Loop first test last)) ∙ ap (λ f. (f free).parts) (fold-roll-Stmt (ℕ → Sized) (statement_sized near) (Stmt-F.Loop first test last))
 
 pub loop_ready : (targets : Targets) (s : Stmt) (first : List Stmt) (test : Cond) (last : List Stmt) (free : ℕ) (w : Written) (l : List ℕ) → s ≡ stmt.Loop first test last → IsTrue (throughout is_encodable s)
-    → Ready (items_of targets s free) (sized s free).parts w l
-    → TwoParts test first last (loop_items (all_items targets first free) (branching test) (all_items targets last free)) (sized_loop (sized_all first free) (sized_all last free)).parts w l
+    → Ready (items_of targets s free) (sized targets.near s free).parts w l
+    → TwoParts test first last (loop_items (all_items targets first free) (branching test) (all_items targets last free)) (sized_loop (sized_all targets.near first free) (sized_all targets.near last free)).parts w l
 loop_ready targets s first test last free w l is form ready =
     let rolled : throughout is_encodable s ≡ ((true && are_registers (test_names test) && true) && (list_all (λ ok. ok) (map (throughout is_encodable) first) && (list_all (λ ok. ok) (map (throughout is_encodable) last) && true))) =
     ap (throughout is_encodable) (is ∙ sym (stmt.rolls-Loop first test last)) ∙ fold-roll-Stmt Bool (λ y. is_encodable y && list_all (list_all (λ ok. ok)) (parts y)) (Stmt-F.Loop first test last) in
@@ -197,7 +197,7 @@ loop_ready targets s first test last free w l is form ready =
       registers = forms.0;
       first_form = forms.1;
       second_form = forms.2;
-      ready = subst (λ p. Ready items p w l) (sized_loop_parts s first test last free is) (subst (λ i. Ready i (sized s free).parts w l) (items_loop targets s first test last free is) ready);
+      ready = subst (λ p. Ready items p w l) (sized_loop_parts targets.near s first test last free is) (subst (λ i. Ready i (sized targets.near s free).parts w l) (items_loop targets s first test last free is) ready);
     }
 
 pub table_few : (targets : Targets) (s : Stmt) (x : ℕ) (size : Size) (bytes : List ℕ) (y free most : ℕ) → s ≡ stmt.Table x size bytes y → length (items_of targets s free) ≤ most → length (table_words bytes) ≤ most
@@ -211,30 +211,30 @@ table_few targets s x size bytes y free most is few =
 -- ---- one statement more
 
 pub record AllStep (targets : Targets) (body : List Stmt) (i : ℕ) (x : Stmt) (free : ℕ) (w w' : Written) (l l' : List ℕ) : Type 0 where
-  pub ready : Ready (all_items targets (drop (i + 1) body) free) (sized_all (drop (i + 1) body) free).parts w' l'
+  pub ready : Ready (all_items targets (drop (i + 1) body) free) (sized_all targets.near (drop (i + 1) body) free).parts w' l'
   pub code : appended w' (all_items targets (drop (i + 1) body) free) ≡ appended w (all_items targets (drop i body) free)
   pub fit : AllFit (items_of targets x free) → AllFit (all_items targets (drop (i + 1) body) free) → AllFit (all_items targets (drop i body) free)
-  pub lengths : drop (length (sized_all (drop (i + 1) body) free).parts) l' ≡ drop (length (sized_all (drop i body) free).parts) l
+  pub lengths : drop (length (sized_all targets.near (drop (i + 1) body) free).parts) l' ≡ drop (length (sized_all targets.near (drop i body) free).parts) l
 
 step_at : (targets : Targets) (body : List Stmt) (i : ℕ) (x : Stmt) (free : ℕ) (w : Written) (l : List ℕ) → drop i body ≡ x ∷ drop (i + 1) body
-    → Ready (all_items targets (drop i body) free) (sized_all (drop i body) free).parts w l
-    → AllStep targets body i x free w (appended w (items_of targets x free)) l (drop (length (sized x free).parts) l)
+    → Ready (all_items targets (drop i body) free) (sized_all targets.near (drop i body) free).parts w l
+    → AllStep targets body i x free w (appended w (items_of targets x free)) l (drop (length (sized targets.near x free).parts) l)
 step_at targets body i x free w l is ready =
     let rest = drop (i + 1) body in
     let here : all_items targets (drop i body) free ≡ items_of targets x free ++ all_items targets rest free = ap (λ b. all_items targets b free) is in
-    let parts : (sized_all (drop i body) free).parts ≡ (sized x free).parts ++ (sized_all rest free).parts = ap (λ b. (sized_all b free).parts) is in
-    let ready' = subst (λ p. Ready (items_of targets x free ++ all_items targets rest free) p w l) parts (subst (λ q. Ready q (sized_all (drop i body) free).parts w l) here ready) in
+    let parts : (sized_all targets.near (drop i body) free).parts ≡ (sized targets.near x free).parts ++ (sized_all targets.near rest free).parts = ap (λ b. (sized_all targets.near b free).parts) is in
+    let ready' = subst (λ p. Ready (items_of targets x free ++ all_items targets rest free) p w l) parts (subst (λ q. Ready q (sized_all targets.near (drop i body) free).parts w l) here ready) in
     record {
-      ready = ready_back (items_of targets x free) (all_items targets rest free) (sized x free).parts (sized_all rest free).parts w l ready';
+      ready = ready_back (items_of targets x free) (all_items targets rest free) (sized targets.near x free).parts (sized_all targets.near rest free).parts w l ready';
       code = appended_twice w (items_of targets x free) (all_items targets rest free) ∙ ap (appended w) (sym here);
       fit = λ f r. subst AllFit (sym here) (fit_both (items_of targets x free) (all_items targets rest free) f r);
-      lengths = drop_both (sized x free).parts (sized_all rest free).parts l ready'.front ∙ ap (λ p. drop (length p) l) (sym parts);
+      lengths = drop_both (sized targets.near x free).parts (sized_all targets.near rest free).parts l ready'.front ∙ ap (λ p. drop (length p) l) (sym parts);
     }
 
-pub all_step : (targets : Targets) (body : List Stmt) (i : ℕ) (x : Stmt) (free : ℕ) (w w' : Written) (l l' : List ℕ) → i < length body → x ≡ get_or body i x → w' ≡ appended w (items_of targets x free) → l' ≡ drop (length (sized x free).parts) l
-    → Ready (all_items targets (drop i body) free) (sized_all (drop i body) free).parts w l → AllStep targets body i x free w w' l l'
+pub all_step : (targets : Targets) (body : List Stmt) (i : ℕ) (x : Stmt) (free : ℕ) (w w' : Written) (l l' : List ℕ) → i < length body → x ≡ get_or body i x → w' ≡ appended w (items_of targets x free) → l' ≡ drop (length (sized targets.near x free).parts) l
+    → Ready (all_items targets (drop i body) free) (sized_all targets.near (drop i body) free).parts w l → AllStep targets body i x free w w' l l'
 all_step targets body i x free w w' l l' inside is code lengths ready =
-    subst (λ q. AllStep targets body i x free w w' l q) (sym lengths) (subst (λ q. AllStep targets body i x free w q l (drop (length (sized x free).parts) l)) (sym code) (step_at targets body i x free w l (drop_next body i x inside is) ready))
+    subst (λ q. AllStep targets body i x free w w' l q) (sym lengths) (subst (λ q. AllStep targets body i x free w q l (drop (length (sized targets.near x free).parts) l)) (sym code) (step_at targets body i x free w l (drop_next body i x inside is) ready))
 
 pub form_next : (body : List Stmt) (i : ℕ) (x : Stmt) → i < length body → x ≡ get_or body i x → IsTrue (list_all (throughout is_encodable) (drop i body)) → IsTrue (list_all (throughout is_encodable) (drop (i + 1) body))
 form_next body i x inside is form =

@@ -1,6 +1,6 @@
 -- What contracts see of code that is being written.
-use Rattle.std.specs.Prelude.{ℕ, ◌-◌, List, ◌++◌, map, length}
-use Rattle.br_emit.specs.Code.{Item, item_word}
+use Rattle.std.specs.Prelude.{ℕ, ◌-◌, List, ◌++◌, length}
+use Rattle.br_emit.specs.Code.{Item, words_at}
 
 -- words, and the room for more
 pub record Written : Type 0 where
@@ -9,7 +9,7 @@ pub record Written : Type 0 where
 
 -- with the words of items after them
 abbrev pub appended : Written → List Item → Written
-appended w items = record { words = w.words ++ map item_word items; room = w.room - length items }
+appended w items = record { words = w.words ++ words_at (length w.words) items; room = w.room - length items }
 
 -- a buffer of code: its words, the offsets of its functions, and the room for more words, functions and calls
 pub record Held : Type 0 where

@@ -2,7 +2,8 @@
 -- is used where a jump is far and for the address of a table. Code does not depend on where it stands.
 use Rattle.std.specs.Prelude.{not, filter, ℕ, zero, suc, ◌+◌, ◌-◌, ◌*◌, ◌/◌, ◌%◌, ◌^◌, ◌<◌, nat_lt, nat_le, ◌==◌, ◌&&◌, ◌||◌, if◌then◌else◌, Bool, ℤ, pos, negsuc, List, [], ◌∷◌, ◌++◌, length, map}
 use Rattle.std.specs.List.{flat_map, list_any}
-use Rattle.br_words.specs.Layout.{stack_end}
+use Rattle.br_words.specs.declared.layout.Layout.TheVariants as layout
+use Rattle.br_words.specs.Layout.{code_base, stack_end}
 use Rattle.br_words.specs.declared.operation.BinOp.{BinOp}
 use Rattle.br_words.specs.declared.operation.BinOp.TheVariants as op
 use Rattle.br_words.specs.declared.size.Size.{Size}
@@ -38,19 +39,46 @@ use Rattle.br_rv32im.specs.declared.instruction.ShiftOp.TheVariants.{Slli, Srli,
 use Rattle.br_rv32im.specs.declared.instruction.RegOp.TheVariants.{Add, Sub, Sll, Slt, Sltu, Xor, Srl, Sra, Or, And, Mul, Mulhu, Divu, Remu}
 use Rattle.br_rv32im.specs.Encoding.{word_of, Fits}
 
--- a word of code: an instruction, or four bytes of a table
+-- the address of a word of code, by its place
+abbrev pub address_of : ℕ → ℕ
+address_of place = code_base layout.Two + 4 * place
+
+-- the distance modulo 2 ^ 32 from the word at a place to an address
+abbrev pub distance_to : ℕ → ℕ → ℕ
+distance_to place target = (target + (2 ^ 32 - address_of place % 2 ^ 32)) % 2 ^ 32
+
+-- a distance modulo 2 ^ 32 in the reach of JAL
+abbrev pub is_near : ℕ → Bool
+is_near w = nat_lt w (2 ^ 20) || nat_le (2 ^ 32 - 2 ^ 20) w
+
+-- a distance that JAL can say
+abbrev pub is_reached : ℕ → Bool
+is_reached w = is_near w && (w % 4 == 0)
+
+-- a word of code: an instruction, four bytes of a table, or a jump to an address that leaves the address after
+-- it in x1
 pub data Item : Type 0 where
   Does : Ins → Item
   Raw : (a b c d : ℕ) → Item
+  Links : ℕ → Item
 
-abbrev pub item_word : Item → ℕ
-item_word (Does i) = word_of i
-item_word (Raw a b c d) = number_of (a ∷ b ∷ c ∷ d ∷ [])
+-- the word of an item at a place: for a jump out of reach one that is no instruction
+abbrev pub item_word : ℕ → Item → ℕ
+item_word place (Does i) = word_of i
+item_word place (Raw a b c d) = number_of (a ∷ b ∷ c ∷ d ∷ [])
+item_word place (Links target) =
+    if is_reached (distance_to place target) then word_of (Jal 1 (signed (distance_to place target))) else 0
+
+-- the words of items that stand from a place on
+abbrev pub words_at : ℕ → List Item → List ℕ
+words_at place [] = []
+words_at place (i ∷ is) = item_word place i ∷ words_at (place + 1) is
 
 -- an instruction fits its format, and bytes are bytes
 abbrev pub ItemFits : Item → Type 0
 ItemFits (Does i) = Fits i
 ItemFits (Raw a b c d) = (a < 256) × (b < 256) × (c < 256) × (d < 256)
+ItemFits (Links target) = Unit {0}
 
 abbrev pub AllFit : List Item → Type 0
 AllFit [] = Unit {0}
@@ -148,7 +176,7 @@ store_op Four = Sw
 -- it in `link`: one word where the distance has 21 bits, else two
 abbrev pub jump_items : ℕ → ℕ → List Item
 jump_items link w =
-    if nat_lt w (2 ^ 20) || nat_le (2 ^ 32 - 2 ^ 20) w then Does (Jal link (signed w)) ∷ []
+    if is_near w then Does (Jal link (signed w)) ∷ []
     else Does (Upper Auipc 1 (high_part w % 2 ^ 20)) ∷ Does (Jalr link 1 (low_part w)) ∷ []
 
 -- a jump over the n words after it
@@ -244,13 +272,16 @@ loop_items first c (k ∷ last) =
 abbrev pub in_turn_items : List (ℕ → List Item) → ℕ → List Item
 in_turn_items codes free = flat_map (λ code. code free) codes
 
--- a call of the code at an address, which leaves the address after it in x1
-abbrev pub call_items : ℕ → List Item
-call_items target = Does (Upper Lui 1 (high_part target)) ∷ Does (Jalr 1 1 (low_part target)) ∷ []
+-- a call of the code at an address, which leaves the address after it in x1: one jump where the whole code is in
+-- the reach of JAL
+abbrev pub call_items : Bool → ℕ → List Item
+call_items near target =
+    if near then Links target ∷ [] else Does (Upper Lui 1 (high_part target)) ∷ Does (Jalr 1 1 (low_part target)) ∷ []
 
--- where the code of each function stands that is called, by its number
-abbrev pub Targets : Type 0
-Targets = ℕ → ℕ
+-- where the code of each function stands that is called, by its number, and whether all of it is near
+pub record Targets : Type 0 where
+  pub near : Bool
+  pub at : ℕ → ℕ
 
 -- a statement, given the code of the statements in it, for the bytes that are free above the stack pointer
 abbrev pub statement_items : Targets → Stmt-F (ℕ → List Item) → ℕ → List Item
@@ -265,7 +296,7 @@ statement_items targets (Stmt-F.If test first second) free =
     if_items (branching test) (in_turn_items first free) (in_turn_items second free)
 statement_items targets (Stmt-F.Loop first test last) free =
     loop_items (in_turn_items first free) (branching test) (in_turn_items last free)
-statement_items targets (Stmt-F.Call xs g ys) free = call_items (targets g)
+statement_items targets (Stmt-F.Call xs g ys) free = call_items targets.near (targets.at g)
 statement_items targets (Stmt-F.Read x y) free = Does (Load Lw x y (pos 0)) ∷ []
 statement_items targets (Stmt-F.Write y z) free = Does (Store Sw y z (pos 0)) ∷ []
 
@@ -340,8 +371,8 @@ callable_items targets forgets n f =
     ++ (restore_items 1 rs ++ exit_items bytes)))))
 
 -- an entry whose function is called: it sets the stack pointer to the end of the stack region, and calls it
-abbrev pub entry_items : ℕ → List Item
-entry_items target = Does (Upper Lui 2 0x80300) ∷ (call_items target ++ Does Ecall ∷ [])
+abbrev pub entry_items : Bool → ℕ → List Item
+entry_items near target = Does (Upper Lui 2 0x80300) ∷ (call_items near target ++ Does Ecall ∷ [])
 
 -- the stack pointer below the buffers
 abbrev pub stack_items : FlatFunc → List Item
@@ -358,7 +389,7 @@ is_called fs n = list_any (λ f. list_any (λ g. g == n) (callees f)) fs
 -- the code of a function, and its entry after it, or its entry alone
 abbrev pub function_items : Targets → Forgets → List FlatFunc → ℕ → FlatFunc → List Item
 function_items targets forgets fs n f =
-    if is_called fs n then callable_items targets forgets n f ++ entry_items (targets n) else direct_items targets f
+    if is_called fs n then callable_items targets forgets n f ++ entry_items targets.near (targets.at n) else direct_items targets f
 
 -- functions from number n on, one after another
 abbrev pub program_items : Targets → Forgets → List FlatFunc → ℕ → List FlatFunc → List Item

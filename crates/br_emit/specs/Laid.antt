@@ -18,12 +18,12 @@ use Rattle.br_flatimp.specs.Renaming.{ReadsNoForgotten}
 use Rattle.br_flatimp.specs.Runs.{Forgets, call_forgetting, call}
 use Rattle.br_machine.specs.Start.{Leftover, IsLeftover, IsInData, start}
 use Rattle.br_emit.specs.Reaches.{Reaches}
-use Rattle.br_emit.specs.Code.{Item, item_word, ItemFits, AllFit, Targets, changes, saved_bytes, callable_items, program_items, places, entry_place}
+use Rattle.br_emit.specs.Code.{Item, item_word, words_at, ItemFits, AllFit, Targets, changes, saved_bytes, callable_items, program_items, places, entry_place}
 
 -- items stand in code from word j on, and fit
 abbrev pub Placed : List ℕ → ℕ → List Item → Type 0
 Placed code j [] = Unit {0}
-Placed code j (i ∷ is) = (slice_get code j ≡ Some (item_word i)) × ItemFits i × Placed code (j + 1) is
+Placed code j (i ∷ is) = (slice_get code j ≡ Some (item_word j i)) × ItemFits i × Placed code (j + 1) is
 
 -- a statement of a program in register form, its parts aside: it writes names of a set, and calls functions of
 -- a set
@@ -47,9 +47,10 @@ pub record Function (code : List ℕ) (fs : List FlatFunc) (targets : Targets) (
   pub needs : saved_bytes forgets n f + nest f + limit n ≤ need n
   pub fours : nest f % 4 ≡ 0
   pub calls : (g : ℕ) → is_in (callees f) g ≡ true → called g ≡ true
-  pub placed : called n ≡ true → (place : ℕ) × (targets n ≡ code_base Two + 4 * place) × Placed code place (callable_items targets forgets n f)
+  pub placed : called n ≡ true → (place : ℕ) × (targets.at n ≡ code_base Two + 4 * place) × Placed code place (callable_items targets forgets n f)
 
--- A program in code: `targets` are the addresses of the functions that are called, a call of g may leave the
+-- A program in code: `targets` are the addresses of the functions that are called, and near only where each word
+-- is in the reach of JAL from each other; a call of g may leave the
 -- registers `forgets g` changed, `need` and `limit` are the bytes of stack of each function and of its callees,
 -- nothing of the stack below `low` is used, and `total` pays for the steps of a unit of fuel.
 pub record Laid : Type 0 where
@@ -63,6 +64,7 @@ pub record Laid : Type 0 where
   pub low : ℕ
   pub total : ℕ
   pub bottom : stack_base ≤ low
+  pub reach : targets.near ≡ true → length code ≤ 262144
   pub functions : (n : ℕ) (f : FlatFunc) → slice_get fs n ≡ Some f → Function code fs targets forgets called need limit total n f
 
 -- what is shown of a call from outside: it is undefined with some choices, or the machine shows it
@@ -96,11 +98,12 @@ callee_need fs need n = of_function (slice_get fs n)
 -- of its callees needs.
 pub record IsCodeOf (fs : List FlatFunc) (targets : Targets) (forgets : Forgets) (need : ℕ → ℕ) (code : List ℕ) : Type 0 where
   pub form : IsRegisterForm fs
-  pub items : code ≡ map item_word (program_items targets forgets fs 0 fs)
+  pub items : code ≡ words_at 0 (program_items targets forgets fs 0 fs)
   pub fit : AllFit (program_items targets forgets fs 0 fs)
   pub few : length code ≤ most_words Two
+  pub reach : targets.near ≡ true → length code ≤ 262144
   pub dead : ReadsNoForgotten forgets fs
-  pub aimed : (n place : ℕ) → slice_get (places targets forgets fs 0 0 fs) n ≡ Some place → targets n ≡ code_base Two + 4 * place
+  pub aimed : (n place : ℕ) → slice_get (places targets forgets fs 0 0 fs) n ≡ Some place → targets.at n ≡ code_base Two + 4 * place
   pub needs : (n : ℕ) (f : FlatFunc) → slice_get fs n ≡ Some f → saved_bytes forgets n f + nest f + callee_need fs need n ≤ need n
 
 -- An entry shows each call of its function: for all arguments, memory, answers, leftover contents and fuel,

@@ -14,9 +14,13 @@ pub record Ready (items : List Item) (parts : List ℕ) (code : Written) (length
   pub few : length items ≤ 1048576
   pub front : IsFront parts lengths
 
--- the functions that are called stand at these addresses
-abbrev pub aimed : List ℕ → Targets
-aimed addresses g = get_or addresses g 0
+-- the addresses at which functions stand, in the order of the program, and whether all of the code is near
+pub record Aims : Type 0 where
+  pub near : Bool
+  pub addresses : List ℕ
+
+abbrev pub aimed : Aims → Targets
+aimed aims = record { near = aims.near; at = λ g. get_or aims.addresses g 0 }
 
 -- an address that LUI and JALR reach
 abbrev pub InReach : ℕ → Type 0

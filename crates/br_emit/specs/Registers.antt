@@ -1,5 +1,5 @@
 -- Sets of registers as words, bit by bit, and what is found of the registers that calls may change.
-use Rattle.std.specs.Prelude.{◌≡◌, ℕ, ◌<◌, nat_lt, ◌==◌, ◌&&◌, ◌||◌, true, IsTrue, List, map, Some, slice_get, get_or}
+use Rattle.std.specs.Prelude.{◌≡◌, ℕ, ◌<◌, nat_lt, ◌==◌, ◌&&◌, ◌||◌, true, IsTrue, List, Some, slice_get, get_or}
 use Rattle.std.specs.Int.{bit_at}
 use Rattle.br_flatimp.specs.declared.program.FlatFunc.{FlatFunc}
 use Rattle.br_flatimp.specs.declared.program.Stmt.{Stmt}
@@ -9,9 +9,9 @@ use Rattle.br_flatimp.specs.Parts.{written, read, callees, function_names}
 use Rattle.br_flatimp.specs.Liveness.{is_in}
 use Rattle.br_flatimp.specs.Renaming.{ReadsNoForgotten}
 use Rattle.br_flatimp.specs.Runs.{Forgets}
-use Rattle.br_emit.specs.Code.{AllFit, item_word, program_items}
+use Rattle.br_emit.specs.Code.{AllFit, words_at, program_items}
 use Rattle.br_emit.specs.Ready.{aimed}
-use Rattle.br_emit.specs.Written.{addresses, entry_offsets}
+use Rattle.br_emit.specs.Written.{aims_of, entry_offsets}
 use Rattle.br_emit.specs.declared.flow.Flow.{Flow}
 
 -- the registers of a set: those whose bit is 1
@@ -43,8 +43,8 @@ pub record IsWritten (fs : List FlatFunc) (words offsets : List ℕ) : Type 0 wh
   pub forgets : Forgets
   pub dead : ReadsNoForgotten forgets fs
   pub closed : IsClosed forgets fs
-  pub code : words ≡ map item_word (program_items (aimed (addresses forgets fs)) forgets fs 0 fs)
-  pub fit : AllFit (program_items (aimed (addresses forgets fs)) forgets fs 0 fs)
+  pub code : words ≡ words_at 0 (program_items (aimed (aims_of forgets fs)) forgets fs 0 fs)
+  pub fit : AllFit (program_items (aimed (aims_of forgets fs)) forgets fs 0 fs)
   pub entries : offsets ≡ entry_offsets forgets fs
 
 -- ---- what is live before statements

@@ -87,28 +87,32 @@ sized_loop first last = record {
   parts = last.words ∷ first.words ∷ (last.parts ++ first.parts);
 }
 
+-- the words of a call, where the whole code is near or not
+abbrev pub call_words : Bool → ℕ
+call_words near = if near then 1 else 2
+
 -- a statement, given the sizes of the statements in it, for the bytes that are free above the stack pointer
-abbrev pub statement_sized : Stmt-F (ℕ → Sized) → ℕ → Sized
-statement_sized (Stmt-F.Lit x n) free = sized_of_words (length (constant_items x n))
-statement_sized (Stmt-F.Copy x y) free = sized_of_words (length (copy_items x y))
-statement_sized (Stmt-F.Op x o y z) free = sized_of_words (length (op_items x o y z))
-statement_sized (Stmt-F.Load x size y offset) free = sized_of_words 1
-statement_sized (Stmt-F.Store size y z offset) free = sized_of_words 1
-statement_sized (Stmt-F.Table x size bytes y) free =
+abbrev pub statement_sized : Bool → Stmt-F (ℕ → Sized) → ℕ → Sized
+statement_sized near (Stmt-F.Lit x n) free = sized_of_words (length (constant_items x n))
+statement_sized near (Stmt-F.Copy x y) free = sized_of_words (length (copy_items x y))
+statement_sized near (Stmt-F.Op x o y z) free = sized_of_words (length (op_items x o y z))
+statement_sized near (Stmt-F.Load x size y offset) free = sized_of_words 1
+statement_sized near (Stmt-F.Store size y z offset) free = sized_of_words 1
+statement_sized near (Stmt-F.Table x size bytes y) free =
     sized_of_words (over_words (words_for (length bytes)) + words_for (length bytes) + 2)
-statement_sized (Stmt-F.Stackalloc x n body) free =
+statement_sized near (Stmt-F.Stackalloc x n body) free =
     both_sized (sized_of_words (length (place_items x (free - n)))) (sized_in_turn body (free - n))
-statement_sized (Stmt-F.If test first second) free = sized_if (sized_in_turn first free) (sized_in_turn second free)
-statement_sized (Stmt-F.Loop first test last) free = sized_loop (sized_in_turn first free) (sized_in_turn last free)
-statement_sized (Stmt-F.Call xs g ys) free = sized_of_words 2
-statement_sized (Stmt-F.Read x y) free = sized_of_words 1
-statement_sized (Stmt-F.Write y z) free = sized_of_words 1
+statement_sized near (Stmt-F.If test first second) free = sized_if (sized_in_turn first free) (sized_in_turn second free)
+statement_sized near (Stmt-F.Loop first test last) free = sized_loop (sized_in_turn first free) (sized_in_turn last free)
+statement_sized near (Stmt-F.Call xs g ys) free = sized_of_words (call_words near)
+statement_sized near (Stmt-F.Read x y) free = sized_of_words 1
+statement_sized near (Stmt-F.Write y z) free = sized_of_words 1
 
-abbrev pub sized : Stmt → ℕ → Sized
-sized = fold-Stmt (ℕ → Sized) statement_sized
+abbrev pub sized : Bool → Stmt → ℕ → Sized
+sized near = fold-Stmt (ℕ → Sized) (statement_sized near)
 
-abbrev pub sized_all : List Stmt → ℕ → Sized
-sized_all body = sized_in_turn (map sized body)
+abbrev pub sized_all : Bool → List Stmt → ℕ → Sized
+sized_all near body = sized_in_turn (map (sized near) body)
 
 -- the list stands at the front of the other
 abbrev pub IsFront : List ℕ → List ℕ → Type 0
@@ -128,30 +132,30 @@ framed_items targets rs body buffers down bytes =
     ++ (restore_items 1 rs ++ exit_items bytes)))))
 
 -- the words of the code of the function numbered n, where it is called, and its entry comes after it
-abbrev pub callable_words : Forgets → ℕ → FlatFunc → ℕ
-callable_words forgets n f =
-    2 * length (saves forgets n f) + length (move_items ((2 ^ 32 - nest f) % 2 ^ 32)) + (sized_all f.body (nest f)).words
+abbrev pub callable_words : Bool → Forgets → ℕ → FlatFunc → ℕ
+callable_words near forgets n f =
+    2 * length (saves forgets n f) + length (move_items ((2 ^ 32 - nest f) % 2 ^ 32)) + (sized_all near f.body (nest f)).words
     + length (move_items (nest f)) + 5
 
 -- the words of the code of a function that nobody calls
-abbrev pub direct_words : FlatFunc → ℕ
-direct_words f = length (stack_items f) + (sized_all f.body (nest f)).words + 1
+abbrev pub direct_words : Bool → FlatFunc → ℕ
+direct_words near f = length (stack_items f) + (sized_all near f.body (nest f)).words + 1
 
-abbrev pub function_words : Forgets → Bool → ℕ → FlatFunc → ℕ
-function_words forgets called n f = if called then callable_words forgets n f + 4 else direct_words f
+abbrev pub function_words : Bool → Forgets → Bool → ℕ → FlatFunc → ℕ
+function_words near forgets called n f = if called then callable_words near forgets n f + (2 + call_words near) else direct_words near f
 
 -- where functions stand one after another, in words
-abbrev pub begins : Forgets → (ℕ → Bool) → ℕ → ℕ → List FlatFunc → List ℕ
-begins forgets called place n [] = []
-begins forgets called place n (f ∷ rest) = place ∷ begins forgets called (place + function_words forgets (called n) n f) (n + 1) rest
+abbrev pub begins : Bool → Forgets → (ℕ → Bool) → ℕ → ℕ → List FlatFunc → List ℕ
+begins near forgets called place n [] = []
+begins near forgets called place n (f ∷ rest) = place ∷ begins near forgets called (place + function_words near forgets (called n) n f) (n + 1) rest
 
 -- where their entries stand
-abbrev pub entries : Forgets → (ℕ → Bool) → ℕ → ℕ → List FlatFunc → List ℕ
-entries forgets called place n [] = []
-entries forgets called place n (f ∷ rest) =
-    (if called n then place + callable_words forgets n f else place) ∷ entries forgets called (place + function_words forgets (called n) n f) (n + 1) rest
+abbrev pub entries : Bool → Forgets → (ℕ → Bool) → ℕ → ℕ → List FlatFunc → List ℕ
+entries near forgets called place n [] = []
+entries near forgets called place n (f ∷ rest) =
+    (if called n then place + callable_words near forgets n f else place) ∷ entries near forgets called (place + function_words near forgets (called n) n f) (n + 1) rest
 
 -- the words of all functions
-abbrev pub program_words : Forgets → (ℕ → Bool) → ℕ → List FlatFunc → ℕ
-program_words forgets called n [] = 0
-program_words forgets called n (f ∷ rest) = function_words forgets (called n) n f + program_words forgets called (n + 1) rest
+abbrev pub program_words : Bool → Forgets → (ℕ → Bool) → ℕ → List FlatFunc → ℕ
+program_words near forgets called n [] = 0
+program_words near forgets called n (f ∷ rest) = function_words near forgets (called n) n f + program_words near forgets called (n + 1) rest

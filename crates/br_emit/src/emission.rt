@@ -17,7 +17,8 @@ use crate::forgotten::{fill, find_forgotten};
 use crate::laws::code_shows_its_program;
 use crate::places::place_functions;
 use crate::programs::write_functions;
-use crate::room::most_words;
+use crate::room::{is_near_program, most_words};
+use crate::targets::Targets;
 use br_base::NoMemory;
 use br_flatimp::{FlatFunc, FlatProgram};
 use br_image::{Entry, Image};
@@ -83,6 +84,7 @@ fn write_into(funcs: &[FlatFunc], code: &mut CodeBuffer)
     requires function_room { length funcs.now ≤ code.old.function_room }
     ensures { IsWritten funcs.now code.new.words code.new.offsets }
 {
+    let near = is_near_program(funcs);
     code.targets.clear();
     flag_called(&mut code.called, funcs);
     let called = code.called.as_slice();
@@ -93,14 +95,15 @@ fn write_into(funcs: &[FlatFunc], code: &mut CodeBuffer)
         &mut code.targets,
         &mut code.offsets,
         &mut code.lengths,
+        near,
         sets,
         called,
         funcs,
     );
-    let targets = code.targets.as_slice();
+    let targets = Targets::new(near, code.targets.as_slice());
     write_functions(
         &mut code.code,
-        targets,
+        &targets,
         &mut code.lengths,
         sets,
         called,

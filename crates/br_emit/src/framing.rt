@@ -101,13 +101,13 @@ pub fn exit(code: &mut Code, bytes: u32)
 }
 
 /// The entry of a function that is called: it sets the stack pointer to the end of the stack, and calls it.
-pub fn entry(code: &mut Code, target: u32)
-    requires room { 4 ≤ code.old.room }
+pub fn entry(code: &mut Code, near: bool, target: u32)
+    requires room { length (entry_items near target) ≤ code.old.room }
     requires target { InReach target }
-    ensures code { code.new ≡ appended code.old (entry_items target) }
-    ensures fit { AllFit (entry_items target) }
+    ensures code { code.new ≡ appended code.old (entry_items near target) }
+    ensures fit { AllFit (entry_items near target) }
 {
     code.put(Ins::Upper(UpperOp::Lui, STACK_POINTER, 0x80300));
-    call(code, target);
+    call(code, near, target);
     code.put(Ins::Ecall);
 }

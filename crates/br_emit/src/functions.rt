@@ -18,6 +18,7 @@ use crate::measuring::{constant_words, measure_all};
 use crate::numbers::{Left, Numbers};
 use crate::registers::saved;
 use crate::straight::constant;
+use crate::targets::Targets;
 use crate::writing::write_all;
 use br_flatimp::{FlatFunc, Stmt};
 use br_rv32im::Ins;
@@ -72,45 +73,51 @@ fn nest_of(s: &Stmt) -> u32
 
 /// The words of the code of the function numbered n, where it is called, up to its entry.
 #[tactic(auto, using(crate::proofs::Saving::saves_few))]
-pub fn callable_words(lengths: &mut Numbers, sets: &[u32], n: usize, f: &FlatFunc) -> u32
+pub fn callable_words(
+    lengths: &mut Numbers,
+    near: bool,
+    sets: &[u32],
+    n: usize,
+    f: &FlatFunc,
+) -> u32
     requires nest { nest f.now ≤ 1048576 }
-    requires room { length (sized_all f.now.body (nest f.now)).parts ≤ lengths.old.room }
-    requires few { callable_words (forgets_of sets.now) n f.now ≤ 1048576 }
-    ensures words { result ≡ callable_words (forgets_of sets.now) n f.now }
-    ensures lengths { lengths.new ≡ noted lengths.old (sized_all f.now.body (nest f.now)).parts }
+    requires room { length (sized_all near f.now.body (nest f.now)).parts ≤ lengths.old.room }
+    requires few { callable_words near (forgets_of sets.now) n f.now ≤ 1048576 }
+    ensures words { result ≡ callable_words near (forgets_of sets.now) n f.now }
+    ensures lengths { lengths.new ≡ noted lengths.old (sized_all near f.now.body (nest f.now)).parts }
 {
     let nest = nest_all(f.body.as_slice());
     let saved = saved(sets, n, f).as_slice().len() as u32;
-    let body = measure_all(lengths, f.body.as_slice(), nest);
+    let body = measure_all(lengths, near, f.body.as_slice(), nest);
     2 * saved + move_words(0u32.wrapping_sub(nest)) + body + move_words(nest) + 5
 }
 
 /// The words of the code of a function that nobody calls.
-pub fn direct_words(lengths: &mut Numbers, f: &FlatFunc) -> u32
+pub fn direct_words(lengths: &mut Numbers, near: bool, f: &FlatFunc) -> u32
     requires nest { nest f.now ≤ 1048576 }
-    requires room { length (sized_all f.now.body (nest f.now)).parts ≤ lengths.old.room }
-    requires few { direct_words f.now ≤ 1048576 }
-    ensures words { result ≡ direct_words f.now }
-    ensures lengths { lengths.new ≡ noted lengths.old (sized_all f.now.body (nest f.now)).parts }
+    requires room { length (sized_all near f.now.body (nest f.now)).parts ≤ lengths.old.room }
+    requires few { direct_words near f.now ≤ 1048576 }
+    ensures words { result ≡ direct_words near f.now }
+    ensures lengths { lengths.new ≡ noted lengths.old (sized_all near f.now.body (nest f.now)).parts }
 {
     let nest = nest_all(f.body.as_slice());
-    let body = measure_all(lengths, f.body.as_slice(), nest);
+    let body = measure_all(lengths, near, f.body.as_slice(), nest);
     constant_words(STACK_POINTER, STACK_END - nest) + body + 1
 }
 
 /// The code of the function numbered n, where it is called, given the lengths of the parts in it.
 pub fn callable(
     code: &mut Code,
-    targets: &[u32],
+    targets: &Targets,
     lengths: &[u32],
     sets: &[u32],
     n: usize,
     f: &FlatFunc,
 )
     requires nest { nest f.now ≤ 1048576 }
-    requires targets { (g : ℕ) → InReach (aimed targets.now g) }
+    requires targets { (g : ℕ) → InReach ((aimed targets.now).at g) }
     requires form { IsTrue (list_all (throughout is_encodable) f.now.body) }
-    requires ready { Ready (callable_items (aimed targets.now) (forgets_of sets.now) n f.now) (sized_all f.now.body (nest f.now)).parts code.old lengths.now }
+    requires ready { Ready (callable_items (aimed targets.now) (forgets_of sets.now) n f.now) (sized_all targets.now.near f.now.body (nest f.now)).parts code.old lengths.now }
     ensures code { code.new ≡ appended code.old (callable_items (aimed targets.now) (forgets_of sets.now) n f.now) }
     ensures fit { AllFit (callable_items (aimed targets.now) (forgets_of sets.now) n f.now) }
 {
@@ -134,7 +141,7 @@ pub fn callable(
 // that the stack pointer moves for them, and the bytes of what it saves.
 fn framed(
     code: &mut Code,
-    targets: &[u32],
+    targets: &Targets,
     lengths: &[u32],
     body: &[Stmt],
     rs: &[u32],
@@ -145,9 +152,9 @@ fn framed(
     requires registers { All (λ r. r < 32) rs.now }
     requires count { length rs.now ≤ 29 }
     requires bytes { bytes ≡ 4 * (1 + length rs.now) }
-    requires targets { (g : ℕ) → InReach (aimed targets.now g) }
+    requires targets { (g : ℕ) → InReach ((aimed targets.now).at g) }
     requires form { IsTrue (list_all (throughout is_encodable) body.now) }
-    requires ready { Ready (framed_items (aimed targets.now) rs.now body.now buffers down bytes) (sized_all body.now buffers).parts code.old lengths.now }
+    requires ready { Ready (framed_items (aimed targets.now) rs.now body.now buffers down bytes) (sized_all targets.now.near body.now buffers).parts code.old lengths.now }
     ensures code { code.new ≡ appended code.old (framed_items (aimed targets.now) rs.now body.now buffers down bytes) }
     ensures fit { AllFit (framed_items (aimed targets.now) rs.now body.now buffers down bytes) }
 {
@@ -162,11 +169,11 @@ fn framed(
 }
 
 /// The code of a function that nobody calls, given the lengths of the parts in it.
-pub fn direct(code: &mut Code, targets: &[u32], lengths: &[u32], f: &FlatFunc)
+pub fn direct(code: &mut Code, targets: &Targets, lengths: &[u32], f: &FlatFunc)
     requires nest { nest f.now ≤ 1048576 }
-    requires targets { (g : ℕ) → InReach (aimed targets.now g) }
+    requires targets { (g : ℕ) → InReach ((aimed targets.now).at g) }
     requires form { IsTrue (list_all (throughout is_encodable) f.now.body) }
-    requires ready { Ready (direct_items (aimed targets.now) f.now) (sized_all f.now.body (nest f.now)).parts code.old lengths.now }
+    requires ready { Ready (direct_items (aimed targets.now) f.now) (sized_all targets.now.near f.now.body (nest f.now)).parts code.old lengths.now }
     ensures code { code.new ≡ appended code.old (direct_items (aimed targets.now) f.now) }
     ensures fit { AllFit (direct_items (aimed targets.now) f.now) }
 {
@@ -175,11 +182,11 @@ pub fn direct(code: &mut Code, targets: &[u32], lengths: &[u32], f: &FlatFunc)
 }
 
 // Code that sets the stack pointer below buffers of so many bytes, and ends after its statements.
-fn ended(code: &mut Code, targets: &[u32], lengths: &[u32], body: &[Stmt], buffers: u32)
+fn ended(code: &mut Code, targets: &Targets, lengths: &[u32], body: &[Stmt], buffers: u32)
     requires few { buffers ≤ 1048576 }
-    requires targets { (g : ℕ) → InReach (aimed targets.now g) }
+    requires targets { (g : ℕ) → InReach ((aimed targets.now).at g) }
     requires form { IsTrue (list_all (throughout is_encodable) body.now) }
-    requires ready { Ready (constant_items 2 (stack_end - buffers) ++ (all_items (aimed targets.now) body.now buffers ++ Does Ecall ∷ [])) (sized_all body.now buffers).parts code.old lengths.now }
+    requires ready { Ready (constant_items 2 (stack_end - buffers) ++ (all_items (aimed targets.now) body.now buffers ++ Does Ecall ∷ [])) (sized_all targets.now.near body.now buffers).parts code.old lengths.now }
     ensures code { code.new ≡ appended code.old (constant_items 2 (stack_end - buffers) ++ (all_items (aimed targets.now) body.now buffers ++ Does Ecall ∷ [])) }
     ensures fit { AllFit (constant_items 2 (stack_end - buffers) ++ (all_items (aimed targets.now) body.now buffers ++ Does Ecall ∷ [])) }
 {

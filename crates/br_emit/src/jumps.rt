@@ -1,15 +1,16 @@
 // The jump piece: jumps and branches over parts whose length is known.
 
-ghost use Rattle.std.specs.Prelude.{◌≡◌, ◌+◌, ◌*◌, ◌-◌, ◌%◌, ◌<◌, ◌≤◌, ◌^◌, ◌||◌, nat_lt, nat_le, if◌then◌else◌, ◌∷◌, [], length};
-ghost use Rattle.br_emit.specs.Code.{AllFit, Branching, branch_item, jump_items, over_items, opposite_branch, otherwise, related, branching, skip_items, back_items, call_items};
-ghost use Rattle.br_emit.specs.Sizes.{jump_words, over_words, skip_words, back_words, if_head_items, if_middle_items, loop_head_items, if_head_words, if_middle_words, loop_head_words};
+ghost use Rattle.std.specs.Prelude.{◌≡◌, ◌+◌, ◌*◌, ◌-◌, ◌%◌, ◌<◌, ◌≤◌, ◌^◌, nat_lt, if◌then◌else◌, ◌∷◌, [], length};
+ghost use Rattle.br_emit.specs.Code.{AllFit, Branching, Links, is_near, is_reached, distance_to, item_word, branch_item, jump_items, over_items, opposite_branch, otherwise, related, branching, skip_items, back_items, call_items};
+ghost use Rattle.br_emit.specs.Sizes.{call_words, jump_words, over_words, skip_words, back_words, if_head_items, if_middle_items, loop_head_items, if_head_words, if_middle_words, loop_head_words};
 ghost use Rattle.br_emit.specs.Buffer.{appended};
 ghost use Rattle.br_emit.specs.Ready.{HasRegisters, InReach};
 
 use crate::code::Code;
 use crate::straight::{high_part, low_part};
 use br_flatimp::{Cond, Rel};
-use br_rv32im::{BranchOp, Ins, UpperOp};
+use br_rv32im::{BranchOp, Ins, UpperOp, encode};
+use br_words::Layout;
 use std::marker::Model;
 
 // The register of return addresses (RISC-V calling conventions, integer register convention), which a
@@ -150,7 +151,7 @@ fn related(rel: Rel) -> BranchOp
 
 // Whether a distance modulo 2^32 is in the reach of JAL.
 fn is_near(w: u32) -> bool
-    ensures { result ≡ (nat_lt w (2 ^ 20) || nat_le (2 ^ 32 - 2 ^ 20) w) }
+    ensures { result ≡ is_near w }
 {
     w < 1_048_576 || 4_293_918_720 <= w
 }
@@ -318,13 +319,63 @@ pub fn loop_back(code: &mut Code, test: Cond, n: u32)
     Branch::when(test).back(code, n);
 }
 
-/// Calls the code at an address, and leaves the address after the call in x1.
-pub fn call(code: &mut Code, target: u32)
-    requires room { 2 ≤ code.old.room }
-    requires target { InReach target }
-    ensures code { code.new ≡ appended code.old (call_items target) }
-    ensures fit { AllFit (call_items target) }
+// ---- calls
+
+// The distance modulo 2^32 from the word of code at a place to an address.
+fn distance_to(place: usize, target: u32) -> u32
+    ensures { result ≡ distance_to place target }
 {
-    code.put(Ins::Upper(UpperOp::Lui, RETURN_ADDRESS, high_part(target)));
-    code.put(Ins::Jalr(RETURN_ADDRESS, RETURN_ADDRESS, low_part(target)));
+    let before = 4 * (place % 1_073_741_824) as u32;
+    target.wrapping_sub(Layout::Two.code_base().wrapping_add(before))
+}
+
+// Whether JAL can say a distance.
+fn is_reached(w: u32) -> bool
+    ensures { result ≡ is_reached w }
+{
+    is_near(w) && w % 4 == 0
+}
+
+// The word at a place of a jump to an address, and of no instruction where that is out of reach.
+fn link_word(place: usize, target: u32) -> u32
+    ensures { result ≡ item_word place (Links target) }
+{
+    let distance = distance_to(place, target);
+    if is_reached(distance) {
+        encode(Ins::Jal(RETURN_ADDRESS, distance.cast_signed()))
+    } else {
+        0
+    }
+}
+
+// Jumps to an address, and leaves the address after the jump in x1.
+fn link(code: &mut Code, target: u32)
+    requires { 1 ≤ code.old.room }
+    ensures { code.new ≡ appended code.old (Links target ∷ []) }
+{
+    let word = link_word(code.words().len(), target);
+    code.push(word);
+}
+
+/// The words of a call, where the whole code is near or not.
+pub fn call_words(near: bool) -> u32
+    ensures { result ≡ call_words near }
+{
+    if near { 1 } else { 2 }
+}
+
+/// Calls the code at an address, and leaves the address after the call in x1: by one jump where the whole
+/// code is near.
+pub fn call(code: &mut Code, near: bool, target: u32)
+    requires room { length (call_items near target) ≤ code.old.room }
+    requires target { InReach target }
+    ensures code { code.new ≡ appended code.old (call_items near target) }
+    ensures fit { AllFit (call_items near target) }
+{
+    if near {
+        link(code, target);
+    } else {
+        code.put(Ins::Upper(UpperOp::Lui, RETURN_ADDRESS, high_part(target)));
+        code.put(Ins::Jalr(RETURN_ADDRESS, RETURN_ADDRESS, low_part(target)));
+    }
 }

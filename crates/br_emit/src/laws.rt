@@ -32,7 +32,7 @@ pub fn direct_entries_show_calls()
 pub fn called_entries_show_calls()
     ensures { (l : Laid) (n : ℕ) (f : FlatFunc) (place need all : ℕ) →
         slice_get l.fs n ≡ Some f → l.called n ≡ true →
-        Placed l.code place (entry_items (l.targets n)) →
+        Placed l.code place (entry_items l.targets.near (l.targets.at n)) →
         length l.code ≤ most_words Two → l.low ≡ stack_end - need →
         l.low + l.need n ≤ stack_end → 16 + l.total ≤ all →
         ShowsCalls l n f place need all }

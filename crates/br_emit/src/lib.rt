@@ -28,6 +28,7 @@ mod registers;
 mod room;
 mod sets;
 mod straight;
+mod targets;
 mod writing;
 
 pub use buffer::CodeBuffer;

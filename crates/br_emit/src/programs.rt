@@ -16,46 +16,48 @@ use crate::framing::entry;
 use crate::functions::{callable, direct, nest_all};
 use crate::measuring::measure_all;
 use crate::numbers::Numbers;
+use crate::targets::Targets;
 use br_flatimp::FlatFunc;
 
 // The lengths of the parts in a function, in place of those before.
-fn measure_function(lengths: &mut Numbers, f: &FlatFunc)
+fn measure_function(lengths: &mut Numbers, targets: &Targets, f: &FlatFunc)
     requires nest { nest f.now ≤ 1048576 }
-    requires parts { length (sized_all f.now.body (nest f.now)).parts ≤ lengths.old.room + length lengths.old.numbers }
-    requires few { (sized_all f.now.body (nest f.now)).words ≤ 1048576 }
-    ensures numbers { lengths.new.numbers ≡ (sized_all f.now.body (nest f.now)).parts }
+    requires parts { length (sized_all targets.now.near f.now.body (nest f.now)).parts ≤ lengths.old.room + length lengths.old.numbers }
+    requires few { (sized_all targets.now.near f.now.body (nest f.now)).words ≤ 1048576 }
+    ensures numbers { lengths.new.numbers ≡ (sized_all targets.now.near f.now.body (nest f.now)).parts }
     ensures kept { lengths.new.room + length lengths.new.numbers ≡ lengths.old.room + length lengths.old.numbers }
 {
     lengths.clear();
-    measure_all(lengths, f.body.as_slice(), nest_all(f.body.as_slice()));
+    let buffers = nest_all(f.body.as_slice());
+    measure_all(lengths, targets.near(), f.body.as_slice(), buffers);
 }
 
 // The code of the function numbered n, where it is called, and its entry.
 fn write_called(
     code: &mut Code,
-    targets: &[u32],
+    targets: &Targets,
     lengths: &[u32],
     sets: &[u32],
     n: usize,
     target: u32,
     f: &FlatFunc,
 )
-    requires targets { (g : ℕ) → InReach (aimed targets.now g) }
+    requires targets { (g : ℕ) → InReach ((aimed targets.now).at g) }
     requires target { InReach target }
     requires nest { nest f.now ≤ 1048576 }
     requires form { IsTrue (list_all (throughout is_encodable) f.now.body) }
-    requires ready { Ready (callable_items (aimed targets.now) (forgets_of sets.now) n f.now ++ entry_items target) (sized_all f.now.body (nest f.now)).parts code.old lengths.now }
-    ensures code { code.new ≡ appended code.old (callable_items (aimed targets.now) (forgets_of sets.now) n f.now ++ entry_items target) }
-    ensures fit { AllFit (callable_items (aimed targets.now) (forgets_of sets.now) n f.now ++ entry_items target) }
+    requires ready { Ready (callable_items (aimed targets.now) (forgets_of sets.now) n f.now ++ entry_items targets.now.near target) (sized_all targets.now.near f.now.body (nest f.now)).parts code.old lengths.now }
+    ensures code { code.new ≡ appended code.old (callable_items (aimed targets.now) (forgets_of sets.now) n f.now ++ entry_items targets.now.near target) }
+    ensures fit { AllFit (callable_items (aimed targets.now) (forgets_of sets.now) n f.now ++ entry_items targets.now.near target) }
 {
     callable(code, targets, lengths, sets, n, f);
-    entry(code, target);
+    entry(code, targets.near(), target);
 }
 
 // The code of the function numbered n and its entry, or its entry alone where nobody calls it.
 fn write_function(
     code: &mut Code,
-    targets: &[u32],
+    targets: &Targets,
     lengths: &mut Numbers,
     sets: &[u32],
     called: bool,
@@ -63,16 +65,16 @@ fn write_function(
     target: u32,
     f: &FlatFunc,
 )
-    requires targets { (g : ℕ) → InReach (aimed targets.now g) }
+    requires targets { (g : ℕ) → InReach ((aimed targets.now).at g) }
     requires target { InReach target }
-    requires writable { Writable (lengths.old.room + length lengths.old.numbers) f.now }
+    requires writable { Writable targets.now.near (lengths.old.room + length lengths.old.numbers) f.now }
     requires room { length (one_items (aimed targets.now) (forgets_of sets.now) called n target f.now) ≤ code.old.room }
     requires few { length (one_items (aimed targets.now) (forgets_of sets.now) called n target f.now) ≤ 1048576 }
     ensures code { code.new ≡ appended code.old (one_items (aimed targets.now) (forgets_of sets.now) called n target f.now) }
     ensures fit { AllFit (one_items (aimed targets.now) (forgets_of sets.now) called n target f.now) }
     ensures kept { lengths.new.room + length lengths.new.numbers ≡ lengths.old.room + length lengths.old.numbers }
 {
-    measure_function(lengths, f);
+    measure_function(lengths, targets, f);
     if called {
         write_called(code, targets, lengths.as_slice(), sets, n, target, f);
     } else {
@@ -90,28 +92,18 @@ pub fn is_flagged(flags: &[bool], n: usize) -> bool
     }
 }
 
-// Where the function of a number stands.
-fn target_of(targets: &[u32], n: usize) -> u32
-    ensures { result ≡ aimed targets.now n }
-{
-    match targets.get(n) {
-        Some(target) => *target,
-        None => 0,
-    }
-}
-
 /// The code of functions, one after another, given where each stands, what calls may change, and which of
 /// them are called.
 pub fn write_functions(
     code: &mut Code,
-    targets: &[u32],
+    targets: &Targets,
     lengths: &mut Numbers,
     sets: &[u32],
     called: &[bool],
     funcs: &[FlatFunc],
 )
-    requires targets { (g : ℕ) → InReach (aimed targets.now g) }
-    requires writable { AllByRecursion (Writable (lengths.old.room + length lengths.old.numbers)) funcs.now }
+    requires targets { (g : ℕ) → InReach ((aimed targets.now).at g) }
+    requires writable { AllByRecursion (Writable targets.now.near (lengths.old.room + length lengths.old.numbers)) funcs.now }
     requires room { length (rest_items (aimed targets.now) (forgets_of sets.now) (flagged called.now) 0 funcs.now) ≤ code.old.room }
     requires few { length (rest_items (aimed targets.now) (forgets_of sets.now) (flagged called.now) 0 funcs.now) ≤ 1048576 }
     ensures code { code.new ≡ appended code.old (rest_items (aimed targets.now) (forgets_of sets.now) (flagged called.now) 0 funcs.now) }
@@ -127,7 +119,7 @@ pub fn write_functions(
             sets,
             is_flagged(called, n),
             n,
-            target_of(targets, n),
+            targets.at(n),
             f,
         );
         n += 1;

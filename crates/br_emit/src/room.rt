@@ -2,6 +2,7 @@
 
 ghost use Rattle.std.specs.Prelude.{◌≡◌, ◌+◌, ◌≤◌, sum, map};
 ghost use Rattle.br_flatimp.specs.Sizes.{words_for, statement_bulk, flat_bulk};
+ghost use Rattle.br_emit.specs.Written.{is_near_program};
 
 use br_flatimp::{FlatFunc, Stmt};
 
@@ -18,6 +19,14 @@ pub fn most_words(funcs: &[FlatFunc]) -> u32
         words += FRAME_WORDS + most_all(f.body.as_slice());
     }
     words
+}
+
+/// Whether the code of functions is in the reach of JAL from each of its words.
+pub fn is_near_program(funcs: &[FlatFunc]) -> bool
+    requires { flat_bulk funcs.now ≤ 1048576 }
+    ensures { result ≡ is_near_program funcs.now }
+{
+    most_words(funcs) <= 262_144
 }
 
 // The most words of the code of statements.

@@ -234,12 +234,15 @@ fn conditionals_loops_and_calls(rt: HostRuntime) -> Result<(), Fail> {
     // jal x0, 12
     loop_head(&mut code, 2);
     // lui x1, 0x80301; jalr x1, -2048(x1)
-    call(&mut code, 0x80300800);
+    call(&mut code, false, 0x80300800);
+    // jal x1, 2004; jal x1, -48
+    call(&mut code, true, 0x80300800);
+    call(&mut code, true, 0x80300000);
     assert_eq!(rt;
         code.words(),
         [
             0x7e62fee3, 0x0062e463, 0x0000106f, 0x0062e463, 0x0040106f, 0x00039463, 0x00038663,
-            0x0080006f, 0x00c0006f, 0x803010b7, 0x800080e7,
+            0x0080006f, 0x00c0006f, 0x803010b7, 0x800080e7, 0x7d4000ef, 0xfd1ff0ef,
         ]
         .as_slice()
     );
@@ -255,12 +258,14 @@ fn frames_and_entries(rt: HostRuntime) -> Result<(), Fail> {
     // lw x1, 0(sp); addi sp, sp, 12; jalr x0, 0(x1)
     exit(&mut code, 12);
     // lui sp, 0x80300; lui x1, 0x80301; jalr x1, -2048(x1); ecall
-    entry(&mut code, 0x80300800);
+    entry(&mut code, false, 0x80300800);
+    // lui sp, 0x80300; jal x1, -48; ecall
+    entry(&mut code, true, 0x80300000);
     assert_eq!(rt;
         code.words(),
         [
             0xff410113, 0x00112023, 0x00512223, 0x00912423, 0x00012083, 0x00c10113, 0x00008067,
-            0x80300137, 0x803010b7, 0x800080e7, 0x00000073,
+            0x80300137, 0x803010b7, 0x800080e7, 0x00000073, 0x80300137, 0xfd1ff0ef, 0x00000073,
         ]
         .as_slice()
     );

@@ -22,8 +22,8 @@ framed-requires-clause-ready c =
     let nest_is = c.nest_all-nest.ensures ∙ ap (λ q. largest (map statement_nest q)) c.as_slice.ensures in
     let items = framed_as (aimed c.args.targets.now) (forgets_of c.args.sets.now) c.args.n f c.as_slice-4.result.now c.as_slice-2.result.now c.as_slice-3.result.now c.nest_all-nest.result
     (c.as_slice-4.ensures ∙ c.saved-saved.ensures) (c.as_slice-2.ensures ∙ c.saved-saved.ensures) c.as_slice-3.ensures nest_is in
-    let parts = ap (λ q. (sized_all q c.nest_all-nest.result).parts) c.as_slice-3.ensures ∙ ap (λ q. (sized_all f.body q).parts) nest_is in
-    subst (λ i. Ready i (sized_all c.as_slice-3.result.now c.nest_all-nest.result).parts c.args.code.now c.args.lengths.now) (sym items)
+    let parts = ap (λ q. (sized_all c.args.targets.now.near q c.nest_all-nest.result).parts) c.as_slice-3.ensures ∙ ap (λ q. (sized_all c.args.targets.now.near f.body q).parts) nest_is in
+    subst (λ i. Ready i (sized_all c.args.targets.now.near c.as_slice-3.result.now c.nest_all-nest.result).parts c.args.code.now c.args.lengths.now) (sym items)
     (subst (λ p. Ready (callable_items (aimed c.args.targets.now) (forgets_of c.args.sets.now) c.args.n f) p c.args.code.now c.args.lengths.now) (sym parts) c.requires.ready)
 
 pub returns-clause-code : goal.returns-clause-code

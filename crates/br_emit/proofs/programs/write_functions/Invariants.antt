@@ -14,6 +14,6 @@ invariant-loop-f l = record {
   fit : AllFit (rest_items (aimed l.targets) (forgets_of l.sets) (flagged l.called) l.n (drop l.f-index l.funcs)) → AllFit (rest_items (aimed l.targets) (forgets_of l.sets) (flagged l.called) 0 l.funcs);
   room : length (rest_items (aimed l.targets) (forgets_of l.sets) (flagged l.called) l.n (drop l.f-index l.funcs)) ≤ l.code.room;
   few : length (rest_items (aimed l.targets) (forgets_of l.sets) (flagged l.called) l.n (drop l.f-index l.funcs)) ≤ 1048576;
-  writable : AllByRecursion (Writable (l.lengths.room + length l.lengths.numbers)) (drop l.f-index l.funcs);
+  writable : AllByRecursion (Writable l.targets.near (l.lengths.room + length l.lengths.numbers)) (drop l.f-index l.funcs);
   kept : l.lengths.room + length l.lengths.numbers ≡ l.initial.lengths.room + length l.initial.lengths.numbers;
 }

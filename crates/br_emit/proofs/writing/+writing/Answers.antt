@@ -44,28 +44,28 @@ write_all-loop-s-preserved t c =
 
 pub write_if-if_head-requires-clause-room : goal.write_if-if_head-requires-clause-room
 write_if-if_head-requires-clause-room t c =
-    let plan = if_plan (branching c.args.test) (all_items (aimed c.args.targets.now) c.args.first.now c.args.free) (all_items (aimed c.args.targets.now) c.args.second.now c.args.free) (sized_all c.args.first.now c.args.free) (sized_all c.args.second.now c.args.free) c.args.code.now c.args.lengths.now (all_words_are (aimed c.args.targets.now) c.args.first.now c.args.free) (all_words_are (aimed c.args.targets.now) c.args.second.now c.args.free) c.requires.ready in
+    let plan = if_plan (branching c.args.test) (all_items (aimed c.args.targets.now) c.args.first.now c.args.free) (all_items (aimed c.args.targets.now) c.args.second.now c.args.free) (sized_all c.args.targets.now.near c.args.first.now c.args.free) (sized_all c.args.targets.now.near c.args.second.now c.args.free) c.args.code.now c.args.lengths.now (all_words_are (aimed c.args.targets.now) c.args.first.now c.args.free) (all_words_are (aimed c.args.targets.now) c.args.second.now c.args.free) c.requires.ready in
     let a_is = c.next-a.ensures.value ∙ plan.first_length in
     let b_is = c.next-b.ensures.value ∙ ap (λ l. get_or l 0 0) c.next-a.ensures.left ∙ plan.second_length in
     rw (a_is, b_is) plan.head_room
 
 pub write_if-if_head-requires-clause-first : goal.write_if-if_head-requires-clause-first
 write_if-if_head-requires-clause-first t c =
-    let plan = if_plan (branching c.args.test) (all_items (aimed c.args.targets.now) c.args.first.now c.args.free) (all_items (aimed c.args.targets.now) c.args.second.now c.args.free) (sized_all c.args.first.now c.args.free) (sized_all c.args.second.now c.args.free) c.args.code.now c.args.lengths.now (all_words_are (aimed c.args.targets.now) c.args.first.now c.args.free) (all_words_are (aimed c.args.targets.now) c.args.second.now c.args.free) c.requires.ready in
+    let plan = if_plan (branching c.args.test) (all_items (aimed c.args.targets.now) c.args.first.now c.args.free) (all_items (aimed c.args.targets.now) c.args.second.now c.args.free) (sized_all c.args.targets.now.near c.args.first.now c.args.free) (sized_all c.args.targets.now.near c.args.second.now c.args.free) c.args.code.now c.args.lengths.now (all_words_are (aimed c.args.targets.now) c.args.first.now c.args.free) (all_words_are (aimed c.args.targets.now) c.args.second.now c.args.free) c.requires.ready in
     let a_is = c.next-a.ensures.value ∙ plan.first_length in
     let b_is = c.next-b.ensures.value ∙ ap (λ l. get_or l 0 0) c.next-a.ensures.left ∙ plan.second_length in
     rw a_is plan.few_first
 
 pub write_if-if_head-requires-clause-second : goal.write_if-if_head-requires-clause-second
 write_if-if_head-requires-clause-second t c =
-    let plan = if_plan (branching c.args.test) (all_items (aimed c.args.targets.now) c.args.first.now c.args.free) (all_items (aimed c.args.targets.now) c.args.second.now c.args.free) (sized_all c.args.first.now c.args.free) (sized_all c.args.second.now c.args.free) c.args.code.now c.args.lengths.now (all_words_are (aimed c.args.targets.now) c.args.first.now c.args.free) (all_words_are (aimed c.args.targets.now) c.args.second.now c.args.free) c.requires.ready in
+    let plan = if_plan (branching c.args.test) (all_items (aimed c.args.targets.now) c.args.first.now c.args.free) (all_items (aimed c.args.targets.now) c.args.second.now c.args.free) (sized_all c.args.targets.now.near c.args.first.now c.args.free) (sized_all c.args.targets.now.near c.args.second.now c.args.free) c.args.code.now c.args.lengths.now (all_words_are (aimed c.args.targets.now) c.args.first.now c.args.free) (all_words_are (aimed c.args.targets.now) c.args.second.now c.args.free) c.requires.ready in
     let a_is = c.next-a.ensures.value ∙ plan.first_length in
     let b_is = c.next-b.ensures.value ∙ ap (λ l. get_or l 0 0) c.next-a.ensures.left ∙ plan.second_length in
     rw b_is plan.few_second
 
 pub write_if-write_all-requires : goal.write_if-write_all-requires
 write_if-write_all-requires t c =
-    let plan = if_plan (branching c.args.test) (all_items (aimed c.args.targets.now) c.args.first.now c.args.free) (all_items (aimed c.args.targets.now) c.args.second.now c.args.free) (sized_all c.args.first.now c.args.free) (sized_all c.args.second.now c.args.free) c.args.code.now c.args.lengths.now (all_words_are (aimed c.args.targets.now) c.args.first.now c.args.free) (all_words_are (aimed c.args.targets.now) c.args.second.now c.args.free) c.requires.ready in
+    let plan = if_plan (branching c.args.test) (all_items (aimed c.args.targets.now) c.args.first.now c.args.free) (all_items (aimed c.args.targets.now) c.args.second.now c.args.free) (sized_all c.args.targets.now.near c.args.first.now c.args.free) (sized_all c.args.targets.now.near c.args.second.now c.args.free) c.args.code.now c.args.lengths.now (all_words_are (aimed c.args.targets.now) c.args.first.now c.args.free) (all_words_are (aimed c.args.targets.now) c.args.second.now c.args.free) c.requires.ready in
     let a_is = c.next-a.ensures.value ∙ plan.first_length in
     let b_is = c.next-b.ensures.value ∙ ap (λ l. get_or l 0 0) c.next-a.ensures.left ∙ plan.second_length in
     let l2 = c.next-b.ensures.left ∙ ap (drop 1) c.next-a.ensures.left in
@@ -74,7 +74,7 @@ write_if-write_all-requires t c =
 
 pub write_if-if_middle-requires-clause-room : goal.write_if-if_middle-requires-clause-room
 write_if-if_middle-requires-clause-room t c =
-    let plan = if_plan (branching c.args.test) (all_items (aimed c.args.targets.now) c.args.first.now c.args.free) (all_items (aimed c.args.targets.now) c.args.second.now c.args.free) (sized_all c.args.first.now c.args.free) (sized_all c.args.second.now c.args.free) c.args.code.now c.args.lengths.now (all_words_are (aimed c.args.targets.now) c.args.first.now c.args.free) (all_words_are (aimed c.args.targets.now) c.args.second.now c.args.free) c.requires.ready in
+    let plan = if_plan (branching c.args.test) (all_items (aimed c.args.targets.now) c.args.first.now c.args.free) (all_items (aimed c.args.targets.now) c.args.second.now c.args.free) (sized_all c.args.targets.now.near c.args.first.now c.args.free) (sized_all c.args.targets.now.near c.args.second.now c.args.free) c.args.code.now c.args.lengths.now (all_words_are (aimed c.args.targets.now) c.args.first.now c.args.free) (all_words_are (aimed c.args.targets.now) c.args.second.now c.args.free) c.requires.ready in
     let a_is = c.next-a.ensures.value ∙ plan.first_length in
     let b_is = c.next-b.ensures.value ∙ ap (λ l. get_or l 0 0) c.next-a.ensures.left ∙ plan.second_length in
     let w1 = c.if_head.ensures.code ∙ ap (λ n. appended c.args.code.now (if_head_items (branching c.args.test) n c.next-b.result)) a_is ∙ ap (λ n. appended c.args.code.now (if_head_items (branching c.args.test) (length (all_items (aimed c.args.targets.now) c.args.first.now c.args.free)) n)) b_is in
@@ -83,26 +83,26 @@ write_if-if_middle-requires-clause-room t c =
 
 pub write_if-if_middle-requires-clause-second : goal.write_if-if_middle-requires-clause-second
 write_if-if_middle-requires-clause-second t c =
-    let plan = if_plan (branching c.args.test) (all_items (aimed c.args.targets.now) c.args.first.now c.args.free) (all_items (aimed c.args.targets.now) c.args.second.now c.args.free) (sized_all c.args.first.now c.args.free) (sized_all c.args.second.now c.args.free) c.args.code.now c.args.lengths.now (all_words_are (aimed c.args.targets.now) c.args.first.now c.args.free) (all_words_are (aimed c.args.targets.now) c.args.second.now c.args.free) c.requires.ready in
+    let plan = if_plan (branching c.args.test) (all_items (aimed c.args.targets.now) c.args.first.now c.args.free) (all_items (aimed c.args.targets.now) c.args.second.now c.args.free) (sized_all c.args.targets.now.near c.args.first.now c.args.free) (sized_all c.args.targets.now.near c.args.second.now c.args.free) c.args.code.now c.args.lengths.now (all_words_are (aimed c.args.targets.now) c.args.first.now c.args.free) (all_words_are (aimed c.args.targets.now) c.args.second.now c.args.free) c.requires.ready in
     let a_is = c.next-a.ensures.value ∙ plan.first_length in
     let b_is = c.next-b.ensures.value ∙ ap (λ l. get_or l 0 0) c.next-a.ensures.left ∙ plan.second_length in
     rw b_is plan.few_second
 
 pub write_if-write_all-requires-2 : goal.write_if-write_all-requires-2
 write_if-write_all-requires-2 t c =
-    let plan = if_plan (branching c.args.test) (all_items (aimed c.args.targets.now) c.args.first.now c.args.free) (all_items (aimed c.args.targets.now) c.args.second.now c.args.free) (sized_all c.args.first.now c.args.free) (sized_all c.args.second.now c.args.free) c.args.code.now c.args.lengths.now (all_words_are (aimed c.args.targets.now) c.args.first.now c.args.free) (all_words_are (aimed c.args.targets.now) c.args.second.now c.args.free) c.requires.ready in
+    let plan = if_plan (branching c.args.test) (all_items (aimed c.args.targets.now) c.args.first.now c.args.free) (all_items (aimed c.args.targets.now) c.args.second.now c.args.free) (sized_all c.args.targets.now.near c.args.first.now c.args.free) (sized_all c.args.targets.now.near c.args.second.now c.args.free) c.args.code.now c.args.lengths.now (all_words_are (aimed c.args.targets.now) c.args.first.now c.args.free) (all_words_are (aimed c.args.targets.now) c.args.second.now c.args.free) c.requires.ready in
     let a_is = c.next-a.ensures.value ∙ plan.first_length in
     let b_is = c.next-b.ensures.value ∙ ap (λ l. get_or l 0 0) c.next-a.ensures.left ∙ plan.second_length in
     let l2 = c.next-b.ensures.left ∙ ap (drop 1) c.next-a.ensures.left in
     let w1 = c.if_head.ensures.code ∙ ap (λ n. appended c.args.code.now (if_head_items (branching c.args.test) n c.next-b.result)) a_is ∙ ap (λ n. appended c.args.code.now (if_head_items (branching c.args.test) (length (all_items (aimed c.args.targets.now) c.args.first.now c.args.free)) n)) b_is in
     let w2 = c.write_all.ensures.code ∙ ap (λ w. appended w (all_items (aimed c.args.targets.now) c.args.first.now c.args.free)) w1 in
-    let l3 = c.write_all.ensures.lengths ∙ ap (drop (length (sized_all c.args.first.now c.args.free).parts)) l2 in
+    let l3 = c.write_all.ensures.lengths ∙ ap (drop (length (sized_all c.args.targets.now.near c.args.first.now c.args.free).parts)) l2 in
     let w3 = c.if_middle.ensures.code ∙ ap (λ w. appended w (if_middle_items c.next-a.result c.next-b.result)) w2 ∙ ap (λ n. appended (appended (appended c.args.code.now (if_head_items (branching c.args.test) (length (all_items (aimed c.args.targets.now) c.args.first.now c.args.free)) (length (all_items (aimed c.args.targets.now) c.args.second.now c.args.free)))) (all_items (aimed c.args.targets.now) c.args.first.now c.args.free)) (if_middle_items n c.next-b.result)) a_is ∙ ap (λ n. appended (appended (appended c.args.code.now (if_head_items (branching c.args.test) (length (all_items (aimed c.args.targets.now) c.args.first.now c.args.free)) (length (all_items (aimed c.args.targets.now) c.args.second.now c.args.free)))) (all_items (aimed c.args.targets.now) c.args.first.now c.args.free)) (if_middle_items (length (all_items (aimed c.args.targets.now) c.args.first.now c.args.free)) n)) b_is in
     (search rules, (c.requires.targets, (c.requires.second, rw (w3, l3) plan.second_ready)))
 
 pub write_if-returns-clause-code : goal.write_if-returns-clause-code
 write_if-returns-clause-code t c =
-    let plan = if_plan (branching c.args.test) (all_items (aimed c.args.targets.now) c.args.first.now c.args.free) (all_items (aimed c.args.targets.now) c.args.second.now c.args.free) (sized_all c.args.first.now c.args.free) (sized_all c.args.second.now c.args.free) c.args.code.now c.args.lengths.now (all_words_are (aimed c.args.targets.now) c.args.first.now c.args.free) (all_words_are (aimed c.args.targets.now) c.args.second.now c.args.free) c.requires.ready in
+    let plan = if_plan (branching c.args.test) (all_items (aimed c.args.targets.now) c.args.first.now c.args.free) (all_items (aimed c.args.targets.now) c.args.second.now c.args.free) (sized_all c.args.targets.now.near c.args.first.now c.args.free) (sized_all c.args.targets.now.near c.args.second.now c.args.free) c.args.code.now c.args.lengths.now (all_words_are (aimed c.args.targets.now) c.args.first.now c.args.free) (all_words_are (aimed c.args.targets.now) c.args.second.now c.args.free) c.requires.ready in
     let a_is = c.next-a.ensures.value ∙ plan.first_length in
     let b_is = c.next-b.ensures.value ∙ ap (λ l. get_or l 0 0) c.next-a.ensures.left ∙ plan.second_length in
     let w1 = c.if_head.ensures.code ∙ ap (λ n. appended c.args.code.now (if_head_items (branching c.args.test) n c.next-b.result)) a_is ∙ ap (λ n. appended c.args.code.now (if_head_items (branching c.args.test) (length (all_items (aimed c.args.targets.now) c.args.first.now c.args.free)) n)) b_is in
@@ -112,7 +112,7 @@ write_if-returns-clause-code t c =
 
 pub write_if-returns-clause-fit : goal.write_if-returns-clause-fit
 write_if-returns-clause-fit t c =
-    let plan = if_plan (branching c.args.test) (all_items (aimed c.args.targets.now) c.args.first.now c.args.free) (all_items (aimed c.args.targets.now) c.args.second.now c.args.free) (sized_all c.args.first.now c.args.free) (sized_all c.args.second.now c.args.free) c.args.code.now c.args.lengths.now (all_words_are (aimed c.args.targets.now) c.args.first.now c.args.free) (all_words_are (aimed c.args.targets.now) c.args.second.now c.args.free) c.requires.ready in
+    let plan = if_plan (branching c.args.test) (all_items (aimed c.args.targets.now) c.args.first.now c.args.free) (all_items (aimed c.args.targets.now) c.args.second.now c.args.free) (sized_all c.args.targets.now.near c.args.first.now c.args.free) (sized_all c.args.targets.now.near c.args.second.now c.args.free) c.args.code.now c.args.lengths.now (all_words_are (aimed c.args.targets.now) c.args.first.now c.args.free) (all_words_are (aimed c.args.targets.now) c.args.second.now c.args.free) c.requires.ready in
     let a_is = c.next-a.ensures.value ∙ plan.first_length in
     let b_is = c.next-b.ensures.value ∙ ap (λ l. get_or l 0 0) c.next-a.ensures.left ∙ plan.second_length in
     plan.fit (subst (λ n. AllFit (if_head_items (branching c.args.test) (length (all_items (aimed c.args.targets.now) c.args.first.now c.args.free)) n)) b_is (subst (λ n. AllFit (if_head_items (branching c.args.test) n c.next-b.result)) a_is c.if_head.ensures.fit)) c.write_all.ensures.fit
@@ -120,14 +120,14 @@ write_if-returns-clause-fit t c =
 
 pub write_loop-loop_head-requires-clause-room : goal.write_loop-loop_head-requires-clause-room
 write_loop-loop_head-requires-clause-room t c =
-    let plan = loop_plan (all_items (aimed c.args.targets.now) c.args.first.now c.args.free) (branching c.args.test) (all_items (aimed c.args.targets.now) c.args.last.now c.args.free) (sized_all c.args.first.now c.args.free) (sized_all c.args.last.now c.args.free) c.args.code.now c.args.lengths.now (all_words_are (aimed c.args.targets.now) c.args.first.now c.args.free) (all_words_are (aimed c.args.targets.now) c.args.last.now c.args.free) c.requires.ready in
+    let plan = loop_plan (all_items (aimed c.args.targets.now) c.args.first.now c.args.free) (branching c.args.test) (all_items (aimed c.args.targets.now) c.args.last.now c.args.free) (sized_all c.args.targets.now.near c.args.first.now c.args.free) (sized_all c.args.targets.now.near c.args.last.now c.args.free) c.args.code.now c.args.lengths.now (all_words_are (aimed c.args.targets.now) c.args.first.now c.args.free) (all_words_are (aimed c.args.targets.now) c.args.last.now c.args.free) c.requires.ready in
     let b_is = c.next-b.ensures.value ∙ plan.last_length in
     let a_is = c.next-a.ensures.value ∙ ap (λ l. get_or l 0 0) c.next-b.ensures.left ∙ plan.first_length in
     rw b_is plan.head_room
 
 pub write_loop-loop_head-requires-clause-few : goal.write_loop-loop_head-requires-clause-few
 write_loop-loop_head-requires-clause-few t c =
-    let plan = loop_plan (all_items (aimed c.args.targets.now) c.args.first.now c.args.free) (branching c.args.test) (all_items (aimed c.args.targets.now) c.args.last.now c.args.free) (sized_all c.args.first.now c.args.free) (sized_all c.args.last.now c.args.free) c.args.code.now c.args.lengths.now (all_words_are (aimed c.args.targets.now) c.args.first.now c.args.free) (all_words_are (aimed c.args.targets.now) c.args.last.now c.args.free) c.requires.ready in
+    let plan = loop_plan (all_items (aimed c.args.targets.now) c.args.first.now c.args.free) (branching c.args.test) (all_items (aimed c.args.targets.now) c.args.last.now c.args.free) (sized_all c.args.targets.now.near c.args.first.now c.args.free) (sized_all c.args.targets.now.near c.args.last.now c.args.free) c.args.code.now c.args.lengths.now (all_words_are (aimed c.args.targets.now) c.args.first.now c.args.free) (all_words_are (aimed c.args.targets.now) c.args.last.now c.args.free) c.requires.ready in
     let b_is = c.next-b.ensures.value ∙ plan.last_length in
     let a_is = c.next-a.ensures.value ∙ ap (λ l. get_or l 0 0) c.next-b.ensures.left ∙ plan.first_length in
     let few = plan.few in
@@ -135,7 +135,7 @@ write_loop-loop_head-requires-clause-few t c =
 
 pub write_loop-write_all-requires : goal.write_loop-write_all-requires
 write_loop-write_all-requires t c =
-    let plan = loop_plan (all_items (aimed c.args.targets.now) c.args.first.now c.args.free) (branching c.args.test) (all_items (aimed c.args.targets.now) c.args.last.now c.args.free) (sized_all c.args.first.now c.args.free) (sized_all c.args.last.now c.args.free) c.args.code.now c.args.lengths.now (all_words_are (aimed c.args.targets.now) c.args.first.now c.args.free) (all_words_are (aimed c.args.targets.now) c.args.last.now c.args.free) c.requires.ready in
+    let plan = loop_plan (all_items (aimed c.args.targets.now) c.args.first.now c.args.free) (branching c.args.test) (all_items (aimed c.args.targets.now) c.args.last.now c.args.free) (sized_all c.args.targets.now.near c.args.first.now c.args.free) (sized_all c.args.targets.now.near c.args.last.now c.args.free) c.args.code.now c.args.lengths.now (all_words_are (aimed c.args.targets.now) c.args.first.now c.args.free) (all_words_are (aimed c.args.targets.now) c.args.last.now c.args.free) c.requires.ready in
     let b_is = c.next-b.ensures.value ∙ plan.last_length in
     let a_is = c.next-a.ensures.value ∙ ap (λ l. get_or l 0 0) c.next-b.ensures.left ∙ plan.first_length in
     let l2 = c.next-a.ensures.left ∙ ap (drop 1) c.next-b.ensures.left in
@@ -144,18 +144,18 @@ write_loop-write_all-requires t c =
 
 pub write_loop-write_all-requires-2 : goal.write_loop-write_all-requires-2
 write_loop-write_all-requires-2 t c =
-    let plan = loop_plan (all_items (aimed c.args.targets.now) c.args.first.now c.args.free) (branching c.args.test) (all_items (aimed c.args.targets.now) c.args.last.now c.args.free) (sized_all c.args.first.now c.args.free) (sized_all c.args.last.now c.args.free) c.args.code.now c.args.lengths.now (all_words_are (aimed c.args.targets.now) c.args.first.now c.args.free) (all_words_are (aimed c.args.targets.now) c.args.last.now c.args.free) c.requires.ready in
+    let plan = loop_plan (all_items (aimed c.args.targets.now) c.args.first.now c.args.free) (branching c.args.test) (all_items (aimed c.args.targets.now) c.args.last.now c.args.free) (sized_all c.args.targets.now.near c.args.first.now c.args.free) (sized_all c.args.targets.now.near c.args.last.now c.args.free) c.args.code.now c.args.lengths.now (all_words_are (aimed c.args.targets.now) c.args.first.now c.args.free) (all_words_are (aimed c.args.targets.now) c.args.last.now c.args.free) c.requires.ready in
     let b_is = c.next-b.ensures.value ∙ plan.last_length in
     let a_is = c.next-a.ensures.value ∙ ap (λ l. get_or l 0 0) c.next-b.ensures.left ∙ plan.first_length in
     let l2 = c.next-a.ensures.left ∙ ap (drop 1) c.next-b.ensures.left in
     let w1 = c.loop_head.ensures.code ∙ ap (λ n. appended c.args.code.now (loop_head_items n)) b_is in
     let w2 = c.write_all.ensures.code ∙ ap (λ w. appended w (all_items (aimed c.args.targets.now) c.args.last.now c.args.free)) w1 in
-    let l3 = c.write_all.ensures.lengths ∙ ap (drop (length (sized_all c.args.last.now c.args.free).parts)) l2 in
+    let l3 = c.write_all.ensures.lengths ∙ ap (drop (length (sized_all c.args.targets.now.near c.args.last.now c.args.free).parts)) l2 in
     (search rules, (c.requires.targets, (c.requires.first, rw (w2, l3) plan.first_ready)))
 
 pub write_loop-overflow_add-b : goal.write_loop-overflow_add-b
 write_loop-overflow_add-b t c =
-    let plan = loop_plan (all_items (aimed c.args.targets.now) c.args.first.now c.args.free) (branching c.args.test) (all_items (aimed c.args.targets.now) c.args.last.now c.args.free) (sized_all c.args.first.now c.args.free) (sized_all c.args.last.now c.args.free) c.args.code.now c.args.lengths.now (all_words_are (aimed c.args.targets.now) c.args.first.now c.args.free) (all_words_are (aimed c.args.targets.now) c.args.last.now c.args.free) c.requires.ready in
+    let plan = loop_plan (all_items (aimed c.args.targets.now) c.args.first.now c.args.free) (branching c.args.test) (all_items (aimed c.args.targets.now) c.args.last.now c.args.free) (sized_all c.args.targets.now.near c.args.first.now c.args.free) (sized_all c.args.targets.now.near c.args.last.now c.args.free) c.args.code.now c.args.lengths.now (all_words_are (aimed c.args.targets.now) c.args.first.now c.args.free) (all_words_are (aimed c.args.targets.now) c.args.last.now c.args.free) c.requires.ready in
     let b_is = c.next-b.ensures.value ∙ plan.last_length in
     let a_is = c.next-a.ensures.value ∙ ap (λ l. get_or l 0 0) c.next-b.ensures.left ∙ plan.first_length in
     let few = plan.few in
@@ -163,7 +163,7 @@ write_loop-overflow_add-b t c =
 
 pub write_loop-loop_back-requires-clause-room : goal.write_loop-loop_back-requires-clause-room
 write_loop-loop_back-requires-clause-room t c =
-    let plan = loop_plan (all_items (aimed c.args.targets.now) c.args.first.now c.args.free) (branching c.args.test) (all_items (aimed c.args.targets.now) c.args.last.now c.args.free) (sized_all c.args.first.now c.args.free) (sized_all c.args.last.now c.args.free) c.args.code.now c.args.lengths.now (all_words_are (aimed c.args.targets.now) c.args.first.now c.args.free) (all_words_are (aimed c.args.targets.now) c.args.last.now c.args.free) c.requires.ready in
+    let plan = loop_plan (all_items (aimed c.args.targets.now) c.args.first.now c.args.free) (branching c.args.test) (all_items (aimed c.args.targets.now) c.args.last.now c.args.free) (sized_all c.args.targets.now.near c.args.first.now c.args.free) (sized_all c.args.targets.now.near c.args.last.now c.args.free) c.args.code.now c.args.lengths.now (all_words_are (aimed c.args.targets.now) c.args.first.now c.args.free) (all_words_are (aimed c.args.targets.now) c.args.last.now c.args.free) c.requires.ready in
     let b_is = c.next-b.ensures.value ∙ plan.last_length in
     let a_is = c.next-a.ensures.value ∙ ap (λ l. get_or l 0 0) c.next-b.ensures.left ∙ plan.first_length in
     let w1 = c.loop_head.ensures.code ∙ ap (λ n. appended c.args.code.now (loop_head_items n)) b_is in
@@ -173,7 +173,7 @@ write_loop-loop_back-requires-clause-room t c =
 
 pub write_loop-loop_back-requires-clause-few : goal.write_loop-loop_back-requires-clause-few
 write_loop-loop_back-requires-clause-few t c =
-    let plan = loop_plan (all_items (aimed c.args.targets.now) c.args.first.now c.args.free) (branching c.args.test) (all_items (aimed c.args.targets.now) c.args.last.now c.args.free) (sized_all c.args.first.now c.args.free) (sized_all c.args.last.now c.args.free) c.args.code.now c.args.lengths.now (all_words_are (aimed c.args.targets.now) c.args.first.now c.args.free) (all_words_are (aimed c.args.targets.now) c.args.last.now c.args.free) c.requires.ready in
+    let plan = loop_plan (all_items (aimed c.args.targets.now) c.args.first.now c.args.free) (branching c.args.test) (all_items (aimed c.args.targets.now) c.args.last.now c.args.free) (sized_all c.args.targets.now.near c.args.first.now c.args.free) (sized_all c.args.targets.now.near c.args.last.now c.args.free) c.args.code.now c.args.lengths.now (all_words_are (aimed c.args.targets.now) c.args.first.now c.args.free) (all_words_are (aimed c.args.targets.now) c.args.last.now c.args.free) c.requires.ready in
     let b_is = c.next-b.ensures.value ∙ plan.last_length in
     let a_is = c.next-a.ensures.value ∙ ap (λ l. get_or l 0 0) c.next-b.ensures.left ∙ plan.first_length in
     let few = plan.few in
@@ -181,7 +181,7 @@ write_loop-loop_back-requires-clause-few t c =
 
 pub write_loop-returns-clause-code : goal.write_loop-returns-clause-code
 write_loop-returns-clause-code t c =
-    let plan = loop_plan (all_items (aimed c.args.targets.now) c.args.first.now c.args.free) (branching c.args.test) (all_items (aimed c.args.targets.now) c.args.last.now c.args.free) (sized_all c.args.first.now c.args.free) (sized_all c.args.last.now c.args.free) c.args.code.now c.args.lengths.now (all_words_are (aimed c.args.targets.now) c.args.first.now c.args.free) (all_words_are (aimed c.args.targets.now) c.args.last.now c.args.free) c.requires.ready in
+    let plan = loop_plan (all_items (aimed c.args.targets.now) c.args.first.now c.args.free) (branching c.args.test) (all_items (aimed c.args.targets.now) c.args.last.now c.args.free) (sized_all c.args.targets.now.near c.args.first.now c.args.free) (sized_all c.args.targets.now.near c.args.last.now c.args.free) c.args.code.now c.args.lengths.now (all_words_are (aimed c.args.targets.now) c.args.first.now c.args.free) (all_words_are (aimed c.args.targets.now) c.args.last.now c.args.free) c.requires.ready in
     let b_is = c.next-b.ensures.value ∙ plan.last_length in
     let a_is = c.next-a.ensures.value ∙ ap (λ l. get_or l 0 0) c.next-b.ensures.left ∙ plan.first_length in
     let w1 = c.loop_head.ensures.code ∙ ap (λ n. appended c.args.code.now (loop_head_items n)) b_is in
@@ -191,7 +191,7 @@ write_loop-returns-clause-code t c =
 
 pub write_loop-returns-clause-fit : goal.write_loop-returns-clause-fit
 write_loop-returns-clause-fit t c =
-    let plan = loop_plan (all_items (aimed c.args.targets.now) c.args.first.now c.args.free) (branching c.args.test) (all_items (aimed c.args.targets.now) c.args.last.now c.args.free) (sized_all c.args.first.now c.args.free) (sized_all c.args.last.now c.args.free) c.args.code.now c.args.lengths.now (all_words_are (aimed c.args.targets.now) c.args.first.now c.args.free) (all_words_are (aimed c.args.targets.now) c.args.last.now c.args.free) c.requires.ready in
+    let plan = loop_plan (all_items (aimed c.args.targets.now) c.args.first.now c.args.free) (branching c.args.test) (all_items (aimed c.args.targets.now) c.args.last.now c.args.free) (sized_all c.args.targets.now.near c.args.first.now c.args.free) (sized_all c.args.targets.now.near c.args.last.now c.args.free) c.args.code.now c.args.lengths.now (all_words_are (aimed c.args.targets.now) c.args.first.now c.args.free) (all_words_are (aimed c.args.targets.now) c.args.last.now c.args.free) c.requires.ready in
     let b_is = c.next-b.ensures.value ∙ plan.last_length in
     let a_is = c.next-a.ensures.value ∙ ap (λ l. get_or l 0 0) c.next-b.ensures.left ∙ plan.first_length in
     plan.fit (subst (λ n. AllFit (loop_head_items n)) b_is c.loop_head.ensures.fit) c.write_all.ensures.fit c.write_all-2.ensures.fit
