@@ -31,11 +31,13 @@ use Rattle.br_flatimp.specs.declared.program.FlatFunc.{FlatFunc}
 use Rattle.br_flatimp.specs.WellFormed.{counts_fit, values_fit}
 use Rattle.br_flatimp.specs.WellFormed as fit
 use Rattle.br_flatten.specs.Flatten.{above, number, is_listed, lists_names, lists_expression, lists_expressions, lists_command_step, lists_command, place, code, codes_of, places_of, branches, expression, joined, read_statements, write_statements, device_statements, callee_number, command_step, command}
+use Rattle.br_flatten.specs.Loops.{loop_of}
 use Rattle.br_flatten.specs.Places.{all_of, expression_variables, expressions_variables, command_variables_step, command_variables}
 use Rattle.br_flatten.proofs.LeastAbove.{above-append}
 use Rattle.br_flatten.proofs.Numbers.{and-first, and-second, number-below, number-same}
-use Rattle.br_flatten.proofs.Fine.{Fine, fine-none, fine-append, fine-within, fine-one, fine-if, fine-loop, fine-stackalloc}
+use Rattle.br_flatten.proofs.Fine.{Fine, fine-none, fine-append, fine-within, fine-one, fine-if, fine-stackalloc}
 use Rattle.br_flatten.proofs.ExpressionSizes.{Coded, coded, expression_sized, operands}
+use Rattle.br_flatten.proofs.LoopSizes.{loop-sized}
 use Rattle.br_flatten.proofs.Commands.{faults, layer_faults, joins, none-first, none-second}
 
 -- ---- numbers of names
@@ -392,7 +394,7 @@ module _ (fs : List Func) (qs : List FlatFunc) (names : List Name) where
   while-sized : (e : Expr) (cs : List Cmd) → CommandsSized fs qs names cs → joins (map (faults fs) cs) ≡ [] → list_all (λ ok. ok) (map is_shaped_command cs) ≡ true
       → Body fs qs (length names) (lists_expression names e && list_all (λ ok. ok) (map (lists_command names) cs)) (1 + expression_bulk e + sum (map command_bulk cs)) (expression_variables e ++ all_of (map command_variables cs))
       (measure.largest (map nested cs)) (paths.joined (map called cs))
-      (roll-Stmt (Stmt-F.Loop ((expression names e).test (length names)).before ((expression names e).test (length names)).cond (joined (map (command fs names) cs))) ∷ [])
+      (loop_of (length names) ((expression names e).test (length names)).before ((expression names e).test (length names)).cond (joined (map (command fs names) cs)))
   while-sized e cs inner none shaped =
       let b = inner none shaped in
       let s = (expression_sized qs names e).words in
@@ -400,7 +402,7 @@ module _ (fs : List Func) (qs : List FlatFunc) (names : List Name) where
       let vs = all_of (map command_variables cs) in
       let lists = list_all (λ ok. ok) (map (lists_command names) cs) in
       record {
-        weight = s.weight + b.weight;
+        weight = suc (s.weight + b.weight);
         split = let split = s.split in let split' = b.split in let len = length-append us vs in omega (arith, split, split', len);
         fine = λ listed.
             let free = length names in
@@ -414,9 +416,10 @@ module _ (fs : List Func) (qs : List FlatFunc) (names : List Name) where
             let B = joined (map (command fs names) cs) in
             let test = (expression names e).test free in
             let C = test.before in
-            fine-loop qs top size one deep [] gs test.cond C B (omega (arith, below))
-            (fine-within qs (free + s.weight) size 0 top size deep [] C (omega arith) (omega arith) (omega arith) c.body)
-            (fine-within qs (free + b.weight) one deep top one deep gs B (omega arith) (omega arith) (omega arith) (b.fine (and-second (lists_expression names e) lists listed)));
+            fine-within qs (suc top) (1 + size + one) deep (free + suc (s.weight + b.weight)) (1 + size + one) deep gs (loop_of free C test.cond B) (omega arith) (omega arith) (omega arith)
+            (loop-sized qs free top size one deep gs C test.cond B (omega arith) (omega (arith, below))
+            (fine-within qs (free + s.weight) size 0 top size 0 [] C (omega arith) (omega arith) (omega arith) c.body)
+            (fine-within qs (free + b.weight) one deep top one deep gs B (omega arith) (omega arith) (omega arith) (b.fine (and-second (lists_expression names e) lists listed))));
       }
 
   within : (lists : Bool) (size : ℕ) (vs : List Name) (deep : ℕ) (gs : List Name) (body : List Stmt) → Body fs qs (length names) lists size vs deep gs body → Body fs qs (length names) lists (1 + size) vs deep gs body

@@ -6,7 +6,7 @@ use Rattle.br_words.specs.declared.size.Size.{Size}
 use Rattle.br_words.specs.Size.{size_of}
 use Rattle.br_bytes.specs.Memory.{put_number, with_bytes}
 use Rattle.br_bytes.specs.Buffers.{is_good, without_range}
-use Rattle.br_bytes.specs.Runs.{Goes, then_do, in_turn, with_defined, choose, with_fuel, with_buffer, loop, back_in, Returns}
+use Rattle.br_bytes.specs.Runs.{Goes, then_do, in_turn, with_defined, choose, with_fuel, with_buffer, back_in, Returns}
 use Rattle.br_syntax.specs.declared.program.Expr.{Expr}
 use Rattle.br_syntax.specs.declared.program.Cmd.{Cmd, map-Cmd}
 use Rattle.br_syntax.specs.declared.program.Cmd.TheOpen.{Cmd-F}
@@ -30,7 +30,8 @@ use Rattle.br_flatten.proofs.Numbers.{and-first, and-second}
 use Rattle.br_flatten.proofs.Turns.{does, does-append, does-after, does-one}
 use Rattle.br_flatten.proofs.Comparisons.{Tests}
 use Rattle.br_flatten.proofs.Expressions.{holds-kept, Placed, placed, Addressed, expression_claim}
-use Rattle.br_flatten.proofs.Pieces.{At, Out, AtMatches, at-locals, matches-source, matches-from, holds-changed, holds-set, holds-unset, holds-set_all, put-same, all_placed, length-values, device-matches, Tested, while-matches}
+use Rattle.br_flatten.proofs.Pieces.{At, Out, AtMatches, at-locals, matches-source, matches-from, holds-changed, holds-set, holds-unset, holds-set_all, put-same, all_placed, length-values, device-matches, Tested}
+use Rattle.br_flatten.proofs.LoopRuns.{loops-match}
 
 -- ---- faults
 
@@ -165,11 +166,11 @@ if-matches names call e one two g1 g2 s t listed first second h =
     (matches-choose (At names) Out (v == 0) (does call two u) (does call one u) (g2 t) (g1 t) (λ e. second u t k) (λ e. first u t k)))
 
 test-word : (names : List Name) (call : Callee) (e : Expr) → lists_expression names e ≡ true → (s : State) (t : src.State) (v : ℕ) → At names s t → value t.locals t.memory e ≡ Some v
-    → Tested names (does call ((expression names e).test (length names)).before) (λ u. test_word ((expression names e).test (length names)).cond u.locals) s t v
+    → Tested (At names) (does call ((expression names e).test (length names)).before) (λ u. test_word ((expression names e).test (length names)).cond u.locals) s t v
 test-word names call e listed s t v h is =
     let free = length names in
     let p = word_tested names call e free s t v listed (le_itself free) h is in
-    record { after = record s { locals = p.locals }; runs = p.runs; word = p.word; related = after_placed names s t p.locals free (le_itself free) p.others h; fuel = refl }
+    record { after = record s { locals = p.locals }; runs = p.runs; word = p.word; stays = after_placed names s t p.locals free (le_itself free) p.others h; fuel = refl }
 
 call-matches : (fs : List Func) (names : List Name) (q : Callee) (p : src.Callee) → CalleesFit fs q p → (place : ℕ) (xs : List Name) (callee : Name) (es : List Expr) (s : State) (t : src.State)
     → lists_names names xs ≡ true → lists_expressions names es ≡ true → layer_faults fs (Cmd-F.Call place xs callee es) ≡ [] → At names s t
@@ -292,14 +293,8 @@ layer fs names q p fit (Cmd-F.While e body) listed none s t h =
     let flat = joined (map (command fs names) cs) in
     let others = in_turn (map (src.run p) cs) in
     let test = (expression names e).test (length names) in
-    let first = does q test.before in
-    let listed1 = and-first (lists_expression names e) rest listed in
-    matches-from names (does q (roll-Stmt (Stmt-F.Loop test.before test.cond flat) ∷ []) s)
-    (then_do (first s) (λ w. loop w.fuel (λ u. test_word test.cond u.locals) (λ u. then_do (does q flat u) first) w))
-    (loop t.fuel (λ u. value u.locals u.memory e) others t)
-    (does-one q (Stmt-F.Loop test.before test.cond flat) s)
-    (while-matches names first (does q flat) (λ u. test_word test.cond u.locals) (λ u. value u.locals u.memory e) others (test-word names q e listed1)
-    (λ u v k. known-all fs names q p body (and-second (lists_expression names e) rest listed) none u v k) s t h)
+    loops-match names q test.before test.cond flat (λ u. value u.locals u.memory e) others (test-word names q e (and-first (lists_expression names e) rest listed))
+    (λ u v k. known-all fs names q p body (and-second (lists_expression names e) rest listed) none u v k) s t h
 layer fs names q p fit (Cmd-F.Seq body) listed none s t h = known-all fs names q p body listed none s t h
 layer fs names q p fit (Cmd-F.Call place xs callee es) listed none s t h =
     call-matches fs names q p fit place xs callee es s t (and-first (lists_names names xs) (lists_expressions names es) listed) (and-second (lists_names names xs) (lists_expressions names es) listed) none h

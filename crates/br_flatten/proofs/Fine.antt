@@ -28,10 +28,10 @@ pub record Fine (fs : List FlatFunc) (top size deep : ℕ) (gs : List ℕ) (body
 
 -- ---- lists in two parts
 
-sum-append : {X : Type 0} (F : X → ℕ) (xs ys : List X) → sum (map F (xs ++ ys)) ≡ sum (map F xs) + sum (map F ys)
+pub sum-append : {X : Type 0} (F : X → ℕ) (xs ys : List X) → sum (map F (xs ++ ys)) ≡ sum (map F xs) + sum (map F ys)
 sum-append F xs ys = omega (arith, sum-map F (xs ++ ys), sum-map F xs, sum-map F ys, sum_by-append F xs ys)
 
-largest-append : {X : Type 0} (F : X → ℕ) (xs ys : List X) → largest (map F (xs ++ ys)) ≡ max (largest (map F xs)) (largest (map F ys))
+pub largest-append : {X : Type 0} (F : X → ℕ) (xs ys : List X) → largest (map F (xs ++ ys)) ≡ max (largest (map F xs)) (largest (map F ys))
 largest-append F [] ys = omega arith
 largest-append F (x ∷ xs) ys = omega (arith, largest-append F xs ys)
 

@@ -9,6 +9,10 @@ pub mod Programs
 pub mod AddedNames
 pub mod LeastAbove
 pub mod Fine
+pub mod Kept
+pub mod Endings
+pub mod LoopRuns
+pub mod LoopSizes
 pub mod ExpressionSizes
 pub mod StatementNames
 pub mod CommandSizes

@@ -227,73 +227,93 @@ device-matches names call xs action places vs s t listed is h =
 
 -- ---- loops
 
+-- a relation of the states of a loop, which have all but their variables in common
+pub record Relates (related : State → src.State → Type 0) : Type 0 where
+  pub outside : (s : State) (t : src.State) → related s t → Out s t
+  pub spent : (s : State) (t : src.State) (k : ℕ) → related s t → related (record s { fuel = k }) (record t { fuel = k })
+
 -- the statements of a test, from related states where it has a word
-pub record Tested (names : List Name) (first : State → Run) (test : State → Option ℕ) (s : State) (t : src.State) (v : ℕ) : Type 0 where
+pub record Tested (related : State → src.State → Type 0) (first : State → Run) (test : State → Option ℕ) (s : State) (t : src.State) (v : ℕ) : Type 0 where
   pub after : State
   pub runs : first s ≡ Goes after
   pub word : test after ≡ Some v
-  pub related : At names after t
+  pub stays : related after t
   pub fuel : after.fuel ≡ s.fuel
 
 then-again : (r : Run) (f g : State → Run) → then_do (then_do r f) g ≡ then_do r (λ u. then_do (f u) g)
 then-again (Goes s) f g = refl
 then-again (Ends end s) f g = refl
 
-spent : (names : List Name) (s : State) (t : src.State) (k : ℕ) → At names s t → At names (record s { fuel = k }) (record t { fuel = k })
-spent names s t k h = record { locals = h.locals; outside = record { memory = h.outside.memory; trace = h.outside.trace; answers = h.outside.answers; choices = h.outside.choices; fuel = refl } }
+pub at-relates : (names : List Name) → Relates (At names)
+at-relates names = record {
+  outside = λ s t h. h.outside;
+  spent = λ s t k h. record { locals = h.locals; outside = record { memory = h.outside.memory; trace = h.outside.trace; answers = h.outside.answers; choices = h.outside.choices; fuel = refl } };
+}
 
-pub loop-matches : (names : List Name) (first last : State → Run) (test : State → Option ℕ) (val : src.State → Option ℕ) (body : src.State → src.Run)
-    → ((s : State) (t : src.State) (v : ℕ) → At names s t → val t ≡ Some v → Tested names first test s t v)
-    → ((s : State) (t : src.State) → At names s t → AtMatches names (last s) (body t))
-    → (bound : ℕ) (s : State) (t : src.State) → At names s t
-    → AtMatches names (then_do (first s) (loop bound test (λ u. then_do (last u) first))) (loop bound val body t)
-loop-matches names first last test val body tested turns zero s t h =
-    matches-source names (then_do (first s) (loop 0 test (λ u. then_do (last u) first))) (val t) t (λ v. choose (v == 0) (Goes t) (Ends OutOfFuel t)) (λ v is.
+abbrev Found : (State → src.State → Type 0) → Run → src.Run → Type 0
+Found related = Matches related Out
+
+found-source : {X : Type 0} (related : State → src.State → Type 0) (q : Run) (o : Option X) (t : src.State) (g : X → src.Run) → ((x : X) → o ≡ Some x → Found related q (g x)) → Found related q (with_defined o t g)
+found-source related q None t g next = matches-undefined related Out q t
+found-source related q (Some x) t g next = next x refl
+
+pub found-from : (related : State → src.State → Type 0) (q r : Run) (p : src.Run) → q ≡ r → Matches related Out r p → Matches related Out q p
+found-from related q r p e h = subst (λ x. Matches related Out x p) (sym e) h
+
+pub loop-matches : (related : State → src.State → Type 0) → Relates related → (first last : State → Run) (test : State → Option ℕ) (val : src.State → Option ℕ) (body : src.State → src.Run)
+    → ((s : State) (t : src.State) (v : ℕ) → related s t → val t ≡ Some v → Tested related first test s t v)
+    → ((s : State) (t : src.State) → related s t → Matches related Out (last s) (body t))
+    → (bound : ℕ) (s : State) (t : src.State) → related s t
+    → Matches related Out (then_do (first s) (loop bound test (λ u. then_do (last u) first))) (loop bound val body t)
+loop-matches related rules first last test val body tested turns zero s t h =
+    found-source related (then_do (first s) (loop 0 test (λ u. then_do (last u) first))) (val t) t (λ v. choose (v == 0) (Goes t) (Ends OutOfFuel t)) (λ v is.
     let d = tested s t v h is in
     let u = d.after in
-    let related = d.related in
-    matches-from names (then_do (first s) (loop 0 test (λ u. then_do (last u) first))) (choose (v == 0) (Goes u) (Ends OutOfFuel u)) (choose (v == 0) (Goes t) (Ends OutOfFuel t))
+    let stays = d.stays in
+    found-from related (then_do (first s) (loop 0 test (λ u. then_do (last u) first))) (choose (v == 0) (Goes u) (Ends OutOfFuel u)) (choose (v == 0) (Goes t) (Ends OutOfFuel t))
     (ap (λ r. then_do r (loop 0 test (λ u. then_do (last u) first))) d.runs ∙ ap (λ o. with_defined o u (λ v. choose (v == 0) (Goes u) (Ends OutOfFuel u))) d.word)
-    (matches-choose (At names) Out (v == 0) (Goes u) (Ends OutOfFuel u) (Goes t) (Ends OutOfFuel t) (λ e. related) (λ e. (refl, related.outside))))
-loop-matches names first last test val body tested turns (suc bound) s t h =
+    (matches-choose related Out (v == 0) (Goes u) (Ends OutOfFuel u) (Goes t) (Ends OutOfFuel t) (λ e. stays) (λ e. (refl, rules.outside u t stays))))
+loop-matches related rules first last test val body tested turns (suc bound) s t h =
     let turn : State → Run = λ u. then_do (last u) first in
     let again : State → Run = λ u. then_do (turn u) (loop bound test turn) in
     let other : src.State → src.Run = λ u. then_do (body u) (loop bound val body) in
-    matches-source names (then_do (first s) (loop (suc bound) test turn)) (val t) t (λ v. choose (v == 0) (Goes t) (with_fuel t other)) (λ v is.
+    found-source related (then_do (first s) (loop (suc bound) test turn)) (val t) t (λ v. choose (v == 0) (Goes t) (with_fuel t other)) (λ v is.
     let d = tested s t v h is in
     let u = d.after in
-    let related = d.related in
-    matches-from names (then_do (first s) (loop (suc bound) test turn)) (choose (v == 0) (Goes u) (with_fuel u again)) (choose (v == 0) (Goes t) (with_fuel t other))
+    let stays = d.stays in
+    let outside = rules.outside u t stays in
+    found-from related (then_do (first s) (loop (suc bound) test turn)) (choose (v == 0) (Goes u) (with_fuel u again)) (choose (v == 0) (Goes t) (with_fuel t other))
     (ap (λ r. then_do r (loop (suc bound) test turn)) d.runs ∙ ap (λ o. with_defined o u (λ v. choose (v == 0) (Goes u) (with_fuel u again))) d.word)
-    (matches-choose (At names) Out (v == 0) (Goes u) (with_fuel u again) (Goes t) (with_fuel t other) (λ e. related) (λ e.
-    matches-with_fuel (At names) Out u t again other related.outside.fuel (λ none. related.outside) (λ k has.
+    (matches-choose related Out (v == 0) (Goes u) (with_fuel u again) (Goes t) (with_fuel t other) (λ e. stays) (λ e.
+    matches-with_fuel related Out u t again other outside.fuel (λ none. outside) (λ k has.
     let a : State = record u { fuel = k } in
     let b : src.State = record t { fuel = k } in
-    matches-from names (again a) (then_do (last a) (λ w. then_do (first w) (loop bound test turn))) (other b)
+    found-from related (again a) (then_do (last a) (λ w. then_do (first w) (loop bound test turn))) (other b)
     (then-again (last a) first (loop bound test turn))
-    (matches-then_do (At names) (At names) Out (last a) (body b) (λ w. then_do (first w) (loop bound test turn)) (loop bound val body) (turns a b (spent names u t k related))
-    (λ x y there here i. loop-matches names first last test val body tested turns bound x y i))))))
+    (matches-then_do related related Out (last a) (body b) (λ w. then_do (first w) (loop bound test turn)) (loop bound val body) (turns a b (rules.spent u t k stays))
+    (λ x y there here i. loop-matches related rules first last test val body tested turns bound x y i))))))
 
 loop-undefined : (n : ℕ) (val : src.State → Option ℕ) (body : src.State → src.Run) (t : src.State) → val t ≡ None → loop n val body t ≡ Ends Undefined t
 loop-undefined zero val body t e = ap (λ o. with_defined o t (λ v. choose (v == 0) (Goes t) (Ends OutOfFuel t))) e
 loop-undefined (suc n) val body t e = ap (λ o. with_defined o t (λ v. choose (v == 0) (Goes t) (with_fuel t (λ u. then_do (body u) (loop n val body))))) e
 
-pub while-matches : (names : List Name) (first last : State → Run) (test : State → Option ℕ) (val : src.State → Option ℕ) (body : src.State → src.Run)
-    → ((s : State) (t : src.State) (v : ℕ) → At names s t → val t ≡ Some v → Tested names first test s t v)
-    → ((s : State) (t : src.State) → At names s t → AtMatches names (last s) (body t))
-    → (s : State) (t : src.State) → At names s t
-    → AtMatches names (then_do (first s) (λ w. loop w.fuel test (λ u. then_do (last u) first) w)) (loop t.fuel val body t)
-while-matches names first last test val body tested turns s t h = by (val t) refl (loop-matches names first last test val body tested turns t.fuel s t h)
+pub while-matches : (related : State → src.State → Type 0) → Relates related → (first last : State → Run) (test : State → Option ℕ) (val : src.State → Option ℕ) (body : src.State → src.Run)
+    → ((s : State) (t : src.State) (v : ℕ) → related s t → val t ≡ Some v → Tested related first test s t v)
+    → ((s : State) (t : src.State) → related s t → Matches related Out (last s) (body t))
+    → (s : State) (t : src.State) → related s t
+    → Matches related Out (then_do (first s) (λ w. loop w.fuel test (λ u. then_do (last u) first) w)) (loop t.fuel val body t)
+while-matches related rules first last test val body tested turns s t h = by (val t) refl (loop-matches related rules first last test val body tested turns t.fuel s t h)
   where
-    by : (o : Option ℕ) → val t ≡ o → AtMatches names (then_do (first s) (loop t.fuel test (λ u. then_do (last u) first))) (loop t.fuel val body t)
-        → AtMatches names (then_do (first s) (λ w. loop w.fuel test (λ u. then_do (last u) first) w)) (loop t.fuel val body t)
+    by : (o : Option ℕ) → val t ≡ o → Matches related Out (then_do (first s) (loop t.fuel test (λ u. then_do (last u) first))) (loop t.fuel val body t)
+        → Matches related Out (then_do (first s) (λ w. loop w.fuel test (λ u. then_do (last u) first) w)) (loop t.fuel val body t)
     by None e matches =
         let q = then_do (first s) (λ w. loop w.fuel test (λ u. then_do (last u) first) w) in
-        subst (λ p. AtMatches names q p) (sym (loop-undefined t.fuel val body t e)) (matches-undefined (At names) Out q t)
+        subst (λ p. Matches related Out q p) (sym (loop-undefined t.fuel val body t e)) (matches-undefined related Out q t)
     by (Some v) e matches =
         let turn : State → Run = λ u. then_do (last u) first in
         let d = tested s t v h e in
         let u = d.after in
-        matches-from names (then_do (first s) (λ w. loop w.fuel test turn w)) (then_do (first s) (loop t.fuel test turn)) (loop t.fuel val body t)
-        (ap (λ r. then_do r (λ w. loop w.fuel test turn w)) d.runs ∙ ap (λ n. loop n test turn u) (d.fuel ∙ h.outside.fuel) ∙ sym (ap (λ r. then_do r (loop t.fuel test turn)) d.runs))
+        let outside = rules.outside s t h in
+        found-from related (then_do (first s) (λ w. loop w.fuel test turn w)) (then_do (first s) (loop t.fuel test turn)) (loop t.fuel val body t)
+        (ap (λ r. then_do r (λ w. loop w.fuel test turn w)) d.runs ∙ ap (λ n. loop n test turn u) (d.fuel ∙ outside.fuel) ∙ sym (ap (λ r. then_do r (loop t.fuel test turn)) d.runs))
         matches

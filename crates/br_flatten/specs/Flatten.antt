@@ -3,7 +3,7 @@
 -- expression goes to a temporary or straight to the variable that is set, and a variable is used where it is.
 -- A literal that an operation may have as a constant is no word, nor is one that is the byte offset of an
 -- address, and a comparison that is tested is none, but what the test asks.
-use Rattle.std.specs.Prelude.{ℕ, suc, max, Bool, true, false, ◌||◌, ◌&&◌, List, [], ◌∷◌, ◌++◌, map, length, Option, Some, None, ℤ, pos, if◌then◌else◌, codes}
+use Rattle.std.specs.Prelude.{ℕ, suc, Bool, true, false, ◌||◌, ◌&&◌, List, [], ◌∷◌, ◌++◌, map, length, Option, Some, None, ℤ, pos, if◌then◌else◌, codes}
 use Rattle.std.specs.List.{flat_map, list_all}
 use Rattle.std.specs.Str.{bytes_eq}
 use Rattle.br_words.specs.declared.operation.BinOp.{BinOp}
@@ -23,6 +23,8 @@ use Rattle.br_flatimp.specs.declared.program.Stmt.TheOpen.{Stmt-F}
 use Rattle.br_flatimp.specs.declared.program.Stmt.TheViews.{roll-Stmt}
 use Rattle.br_flatimp.specs.declared.program.FlatFunc.{FlatFunc}
 use Rattle.br_flatimp.specs.Parts.{statement_names}
+pub use Rattle.br_flatten.specs.Loops.{above}
+use Rattle.br_flatten.specs.Loops.{loop_of}
 use Rattle.br_flatten.specs.Tests.{Test, relation, asks_zero, negation}
 use Rattle.br_flatten.specs.Constants.{constant, left_constant, byte_offset}
 
@@ -267,10 +269,10 @@ command_step fs names (Cmd-F.Store size a e) = store ((expression names a).addre
 command_step fs names (Cmd-F.Stackalloc x n body) = roll-Stmt (Stmt-F.Stackalloc (number names x) n (joined body)) ∷ []
 command_step fs names (Cmd-F.If e first second) =
     branches ((expression names e).test (length names)) (joined first) (joined second)
-command_step fs names (Cmd-F.While e body) = repeats ((expression names e).test (length names)) (joined body)
+command_step fs names (Cmd-F.While e body) = repeats (length names) ((expression names e).test (length names)) (joined body)
   where
-    repeats : Test → List Stmt → List Stmt
-    repeats t body = roll-Stmt (Stmt-F.Loop t.before t.cond body) ∷ []
+    repeats : ℕ → Test → List Stmt → List Stmt
+    repeats free t body = loop_of free t.before t.cond body
 command_step fs names (Cmd-F.Seq body) = joined body
 command_step fs names (Cmd-F.Call at xs callee es) =
     codes_of (map (expression names) es) (length names)
@@ -287,11 +289,6 @@ abbrev pub commands : List Func → List Name → List Cmd → List Stmt
 commands fs names cs = joined (map (command fs names) cs)
 
 -- ---- functions and programs
-
--- the least number above those of a list
-abbrev pub above : List ℕ → ℕ
-above [] = 0
-above (x ∷ xs) = max (suc x) (above xs)
 
 -- a function of a program, with its names numbered by a list
 abbrev pub flat_function : List Func → List Name → Func → FlatFunc

@@ -1,5 +1,6 @@
 pub mod Tests
 pub mod Constants
+pub mod Loops
 pub mod Flatten
 pub mod Places
 pub mod Numbering

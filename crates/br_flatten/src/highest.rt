@@ -4,7 +4,7 @@
 ghost use Rattle.std.specs.Prelude.{◌≡◌, min};
 ghost use Rattle.std.specs.List.{flat_map};
 ghost use Rattle.br_flatimp.specs.Parts.{operand_names, statement_names, test_names};
-ghost use Rattle.br_flatten.specs.Flatten.{above};
+ghost use Rattle.br_flatten.specs.Loops.{above};
 
 use br_flatimp::{Cond, Operand, Stmt};
 

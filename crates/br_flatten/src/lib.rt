@@ -8,6 +8,7 @@ mod constants;
 mod flattening;
 mod highest;
 mod laws;
+mod loops;
 mod numbering;
 mod operands;
 mod places;
@@ -16,6 +17,3 @@ mod statements;
 
 pub use flattening::flatten;
 pub use laws::flat_programs_refine;
-
-#[cfg(test)]
-mod tests;

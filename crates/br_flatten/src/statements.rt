@@ -5,6 +5,7 @@ ghost use Rattle.br_flatten.specs.Flatten.{command, commands, device_statements,
 ghost use Rattle.br_flatten.specs.Numbering.{listed};
 ghost use Rattle.br_measure.specs.Bulk.{command_bulk, commands_bulk};
 
+use crate::loops::repeat;
 use crate::operands::{address, into, operand, operands, tested};
 use crate::scope::Scope;
 use br_base::{Name, NoMemory};
@@ -58,7 +59,7 @@ fn command(scope: &Scope, c: &Cmd, out: &mut Items<Stmt>) -> Result<(), NoMemory
             let test = tested(scope, e, free, &mut first)?;
             let mut body = Items::new(scope.alloc);
             commands(scope, inner.as_slice(), &mut body)?;
-            out.push(Stmt::Loop(first, test.cond, body))?;
+            repeat(free, first, test.cond, body, out)?;
         }
         Cmd::Seq(body) => {
             commands(scope, body.as_slice(), out)?;
