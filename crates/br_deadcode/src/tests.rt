@@ -117,3 +117,28 @@ fn parts_go(rt: HostRuntime) -> Result<(), Fail> {
     wanted.push(Stmt::Stackalloc(8, 4, Items::new(alloc)))?;
     same(&rt, alloc, &made, &wanted)
 }
+
+// Copies around a loop, each to the next, of which the last writes a given name.
+fn carried(alloc: Global, last: u32) -> Result<Items<Stmt>, Fail> {
+    let mut turn = one(alloc, Stmt::Copy(last, 4))?;
+    turn.push(Stmt::Copy(4, 3))?;
+    turn.push(Stmt::Copy(3, 2))?;
+    turn.push(Stmt::Copy(2, 1))?;
+    turn.push(Stmt::Op(0, BinOp::Sub, 0, Operand::Const(1)))?;
+    let mut body = one(alloc, Stmt::Lit(9, 0))?;
+    body.push(Stmt::Loop(Items::new(alloc), Cond::NonZero(0), turn))?;
+    Ok(body)
+}
+
+// None of the copies around a loop is needed, or all are.
+#[test]
+fn carried_values(rt: HostRuntime) -> Result<(), Fail> {
+    let alloc = rt.alloc();
+    let made = left(&rt, alloc, carried(alloc, 5)?)?;
+    let turn = one(alloc, Stmt::Op(0, BinOp::Sub, 0, Operand::Const(1)))?;
+    let mut wanted = one(alloc, Stmt::Lit(9, 0))?;
+    wanted.push(Stmt::Loop(Items::new(alloc), Cond::NonZero(0), turn))?;
+    same(&rt, alloc, &made, &wanted)?;
+    let made = left(&rt, alloc, carried(alloc, 9)?)?;
+    same(&rt, alloc, &made, &carried(alloc, 9)?)
+}
