@@ -16,6 +16,3 @@ mod variables;
 
 pub use interp::{Finished, Interp};
 pub use laws::{bounds_do_not_show, longer_lists_stay, more_fuel_goes_on, runs_only_take};
-
-#[cfg(test)]
-mod tests;

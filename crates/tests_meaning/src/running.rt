@@ -1,8 +1,8 @@
 // Programs that are run.
 
-use crate::{Finished, Interp};
 use br_bytes::{ByteMap, Choice, Event, Outcome};
 use br_sexpr::read;
+use br_source_meaning::{Finished, Interp};
 use br_syntax::from_tree;
 use br_words::Size;
 use sqlite_items::Items;
