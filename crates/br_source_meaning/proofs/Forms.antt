@@ -28,26 +28,26 @@ use Rattle.br_source_meaning.specs.declared.numbered.NumberedCmd.TheFolds.{fold-
 -- ---- the forms of the source
 
 module _ (own : List Name) where
-  named-Literal : (n : ℕ) → named_expr own (expr.Literal n) ≡ expression.Literal n
+  pub named-Literal : (n : ℕ) → named_expr own (expr.Literal n) ≡ expression.Literal n
   named-Literal n = ap (named_expr own) (sym (expr.rolls-Literal n)) ∙ fold-roll-NumberedExpr Expr (named_expr_step own) (NumberedExpr-F.Literal n)
 
   pub named-Var : (k : ℕ) → named_expr own (expr.Var k) ≡ expression.Var (name_at own k)
   named-Var k = ap (named_expr own) (sym (expr.rolls-Var k)) ∙ fold-roll-NumberedExpr Expr (named_expr_step own) (NumberedExpr-F.Var k)
 
-  named-Load : (size : Size) (a : NumberedExpr) → named_expr own (expr.Load size a) ≡ expression.Load size (named_expr own a)
+  pub named-Load : (size : Size) (a : NumberedExpr) → named_expr own (expr.Load size a) ≡ expression.Load size (named_expr own a)
   named-Load size a = ap (named_expr own) (sym (expr.rolls-Load size a)) ∙ fold-roll-NumberedExpr Expr (named_expr_step own) (NumberedExpr-F.Load size a)
 
-  named-Table : (size : Size) (bytes : Bor (List ℕ)) (i : NumberedExpr) → named_expr own (expr.Table size bytes i) ≡ expression.Table size bytes.now (named_expr own i)
+  pub named-Table : (size : Size) (bytes : Bor (List ℕ)) (i : NumberedExpr) → named_expr own (expr.Table size bytes i) ≡ expression.Table size bytes.now (named_expr own i)
   named-Table size bytes i = ap (named_expr own) (sym (expr.rolls-Table size bytes i)) ∙ fold-roll-NumberedExpr Expr (named_expr_step own) (NumberedExpr-F.Table size bytes i)
 
-  named-Op : (o : BinOp) (a b : NumberedExpr) → named_expr own (expr.Op o a b) ≡ expression.Op o (named_expr own a) (named_expr own b)
+  pub named-Op : (o : BinOp) (a b : NumberedExpr) → named_expr own (expr.Op o a b) ≡ expression.Op o (named_expr own a) (named_expr own b)
   named-Op o a b = ap (named_expr own) (sym (expr.rolls-Op o a b)) ∙ fold-roll-NumberedExpr Expr (named_expr_step own) (NumberedExpr-F.Op o a b)
 
-  named-Ite : (test a b : NumberedExpr) → named_expr own (expr.Ite test a b) ≡ expression.Ite (named_expr own test) (named_expr own a) (named_expr own b)
+  pub named-Ite : (test a b : NumberedExpr) → named_expr own (expr.Ite test a b) ≡ expression.Ite (named_expr own test) (named_expr own a) (named_expr own b)
   named-Ite test a b = ap (named_expr own) (sym (expr.rolls-Ite test a b)) ∙ fold-roll-NumberedExpr Expr (named_expr_step own) (NumberedExpr-F.Ite test a b)
 
 module _ (names own : List Name) where
-  named-Skip : named_command names own numbered.Skip ≡ source.Skip
+  pub named-Skip : named_command names own numbered.Skip ≡ source.Skip
   named-Skip = ap (named_command names own) (sym numbered.rolls-Skip) ∙ fold-roll-NumberedCmd Cmd (named_step names own) NumberedCmd-F.Skip
 
   pub named-Set : (k : ℕ) (e : NumberedExpr) → named_command names own (numbered.Set k e) ≡ source.Set (name_at own k) (named_expr own e)
@@ -56,16 +56,19 @@ module _ (names own : List Name) where
   pub named-Unset : (k : ℕ) → named_command names own (numbered.Unset k) ≡ source.Unset (name_at own k)
   named-Unset k = ap (named_command names own) (sym (numbered.rolls-Unset k)) ∙ fold-roll-NumberedCmd Cmd (named_step names own) (NumberedCmd-F.Unset k)
 
-  named-Store : (size : Size) (a e : NumberedExpr) → named_command names own (numbered.Store size a e) ≡ source.Store size (named_expr own a) (named_expr own e)
+  pub named-Store : (size : Size) (a e : NumberedExpr) → named_command names own (numbered.Store size a e) ≡ source.Store size (named_expr own a) (named_expr own e)
   named-Store size a e = ap (named_command names own) (sym (numbered.rolls-Store size a e)) ∙ fold-roll-NumberedCmd Cmd (named_step names own) (NumberedCmd-F.Store size a e)
 
   pub named-Stackalloc : (k n : ℕ) (body : List NumberedCmd) → named_command names own (numbered.Stackalloc k n body) ≡ source.Stackalloc (name_at own k) n (named_commands names own body)
   named-Stackalloc k n body = ap (named_command names own) (sym (numbered.rolls-Stackalloc k n body)) ∙ fold-roll-NumberedCmd Cmd (named_step names own) (NumberedCmd-F.Stackalloc k n body)
 
-  named-If : (e : NumberedExpr) (first second : List NumberedCmd) → named_command names own (numbered.If e first second) ≡ source.If (named_expr own e) (named_commands names own first) (named_commands names own second)
+  pub named-If : (e : NumberedExpr) (first second : List NumberedCmd) → named_command names own (numbered.If e first second) ≡ source.If (named_expr own e) (named_commands names own first) (named_commands names own second)
   named-If e first second = ap (named_command names own) (sym (numbered.rolls-If e first second)) ∙ fold-roll-NumberedCmd Cmd (named_step names own) (NumberedCmd-F.If e first second)
 
-  named-Seq : (body : List NumberedCmd) → named_command names own (numbered.Seq body) ≡ source.Seq (named_commands names own body)
+  pub named-While : (e : NumberedExpr) (body : List NumberedCmd) → named_command names own (numbered.While e body) ≡ source.While (named_expr own e) (named_commands names own body)
+  named-While e body = ap (named_command names own) (sym (numbered.rolls-While e body)) ∙ fold-roll-NumberedCmd Cmd (named_step names own) (NumberedCmd-F.While e body)
+
+  pub named-Seq : (body : List NumberedCmd) → named_command names own (numbered.Seq body) ≡ source.Seq (named_commands names own body)
   named-Seq body = ap (named_command names own) (sym (numbered.rolls-Seq body)) ∙ fold-roll-NumberedCmd Cmd (named_step names own) (NumberedCmd-F.Seq body)
 
   pub named-Call : (at : ℕ) (ks : List ℕ) (callee : Target) (es : List NumberedExpr) → named_command names own (numbered.Call at ks callee es) ≡ source.Call at (names_at own ks) (target_name names callee) (named_exprs own es)

@@ -1,6 +1,7 @@
--- One more function among those that are known by name.
-use Rattle.std.proofs.Common.{◌≡◌, ℕ, suc, ◌-◌, ◌<◌, ◌≤◌, List, ◌∷◌, map, Bool, true, false, cond, Option, Some, Bor, length, get_or, drop, refl, sym, ap, ◌∙◌, arith}
-use Rattle.std.proofs.Math.Seq.{drop-cons}
+-- Functions that are known by name.
+use Rattle.std.proofs.Common.{◌≡◌, ℕ, suc, ◌+◌, ◌-◌, ◌<◌, ◌≤◌, List, [], ◌∷◌, ◌++◌, map, take, add-one, Bool, true, false, cond, Option, Some, Bor, length, get_or, drop, refl, sym, ap, ◌∙◌, arith}
+use Rattle.std.proofs.Math.Seq.{drop-cons, take-suc}
+use Rattle.std.proofs.lemmas.List.{map-append}
 use Rattle.std.specs.Option.{option_copied, option_map}
 use Rattle.std.specs.Str.{bytes_eq}
 use Rattle.br_syntax.specs.declared.program.Func.{Func}
@@ -29,9 +30,20 @@ known-more names fs i f key x old new some within is named known more =
     ∙ sym (from names fs (i - 1) f.now x (omega arith) is)
 
 -- all functions are known where the first is
-pub known-all : (names : List Name) (fs own : List NumberedFunc) (all : List Func) (i : ℕ) (x : Name) (o : Option Func) → i ≤ 0 → fs ≡ own → map (named_function names) own ≡ all → o ≡ function_named (map (named_function names) (drop i fs)) x → o ≡ function_named all x
-known-all names fs own all i x o none same named known =
+pub known-all : (names : List Name) (fs : List NumberedFunc) (i : ℕ) (x : Name) (o : Option Func) → i ≤ 0 → o ≡ function_named (map (named_function names) (drop i fs)) x → o ≡ function_named (map (named_function names) fs) x
+known-all names fs i x o none known =
     let zero_is : i ≡ 0 = omega arith in
-    known
-    ∙ ap (λ j. function_named (map (named_function names) (drop j fs)) x) zero_is
-    ∙ ap (λ gs. function_named gs x) (ap (map (named_function names)) same ∙ named)
+    known ∙ ap (λ j. function_named (map (named_function names) (drop j fs)) x) zero_is
+
+-- what is found by each of some names, where what is found by a name is its function
+pub found-all : (names : List Name) (fs : List Func) (found : Name → Option (Bor NumberedFunc)) → ((x : Name) → option_map (named_function names) (option_copied (found x)) ≡ function_named fs x) → (ks : List (Bor (List ℕ))) → map (λ o. option_map (named_function names) (option_copied o)) (map (λ k. found k.now) ks) ≡ map (λ k. function_named fs k.now) ks
+found-all names fs found known [] = refl
+found-all names fs found known (k ∷ ks) = ap (λ o. o ∷ map (λ o. option_map (named_function names) (option_copied o)) (map (λ k. found k.now) ks)) (known k.now) ∙ ap (λ os. function_named fs k.now ∷ os) (found-all names fs found known ks)
+
+-- one more of them
+pub found-more : (found : Name → Option (Bor NumberedFunc)) (done new : List (Option (Bor NumberedFunc))) (ks : List (Bor (List ℕ))) (i : ℕ) (d : Bor (List ℕ)) (o : Option (Bor NumberedFunc)) → new ≡ done ++ o ∷ [] → i < length ks → done ≡ map (λ k. found k.now) (take i ks) → o ≡ found (get_or ks i d).now → new ≡ map (λ k. found k.now) (take (i + 1) ks)
+found-more found done new ks i d o is inside same one =
+    is
+    ∙ ap (λ os. os ++ o ∷ []) same
+    ∙ ap (λ o. map (λ k. found k.now) (take i ks) ++ o ∷ []) one
+    ∙ sym (ap (map (λ k. found k.now)) (ap (λ n. take n ks) (add-one i) ∙ take-suc ks i d inside) ∙ map-append (λ (k : Bor (List ℕ)). found k.now) (take i ks) (get_or ks i d ∷ []))

@@ -1,8 +1,7 @@
 -- Names by their numbers.
-use Rattle.std.proofs.Common.{◌≡◌, ℕ, zero, suc, ◌+◌, ◌<◌, ◌++◌, length, take, arith, List, [], ◌∷◌, map, slice_get, Option, Some, None, Result, Ok, Err, IfOk, OnErr, Bor, Bool, true, false, if◌then◌else◌, get_or, position, refl, sym, ap, ◌∙◌}
+use Rattle.std.proofs.Common.{◌≡◌, ℕ, zero, suc, ◌++◌, List, [], ◌∷◌, map, slice_get, Option, Some, None, Result, Ok, Err, IfOk, OnErr, Bor, Bool, true, false, if◌then◌else◌, get_or, position, refl, sym, ap, ◌∙◌}
 use Rattle.std.specs.Option.{option_copied, option_map}
 use Rattle.std.specs.Str.{bytes_eq}
-use Rattle.std.proofs.lemmas.Grind.{common_steps}
 use Rattle.std.specs.List.{list_any}
 use Rattle.std.proofs.lemmas.List.{get_or-map, map-append}
 use Rattle.std.proofs.lemmas.Option.{get_or_from_slice_get}
@@ -40,10 +39,6 @@ at-number ks q x k same is =
     let d : Bor (List ℕ) = record { ref_ptr = (0, 0); now = [] } in
     let first = position-Some (λ k. bytes_eq q k.now) ks k d is in
     get_or-map (λ (k : Bor (List ℕ)). k.now) ks k d [] first.0 ∙ sym ((bytes_eq-Decides q (get_or ks k d).now).0 first.1) ∙ same
-
--- one more number
-pub numbered-more : (names : List Name) (fs : List Func) (table new : List (Option (Bor NumberedFunc))) (ks : List (Bor (List ℕ))) (i : ℕ) (o : Option (Bor NumberedFunc)) → new ≡ table ++ o ∷ [] → i < length ks → map (λ f. option_map (named_function names) (option_copied f)) table ≡ map (λ k. function_named fs k.now) (take i ks) → option_map (named_function names) (option_copied o) ≡ function_named fs (get_or ks i (record { ref_ptr = (0, 0); now = [] })).now → map (λ f. option_map (named_function names) (option_copied f)) new ≡ map (λ k. function_named fs k.now) (take (i + 1) ks)
-numbered-more names fs table new ks i o is inside same one = grind (arith, common_steps)
 
 -- numbers that stay as names are added
 

@@ -8,9 +8,10 @@ ghost use Rattle.std.proofs.Props.{props};
 ghost use Rattle.br_syntax.specs.Functions.{function_named};
 ghost use Rattle.br_source_meaning.specs.Numbered.{named_function, target_name};
 ghost use Rattle.br_source_meaning.specs.Names.{listed};
+ghost use Rattle.br_source_meaning.specs.Values.{Name};
 
 use crate::numbered::{NumberedFunc, Target};
-use crate::numbering::NumberedProgram;
+use crate::numbering::{Names, NumberedProgram};
 use br_base::NoMemory;
 use br_syntax::Func;
 use indexmap::IndexMap;
@@ -29,8 +30,7 @@ pub(crate) struct Functions<'x, 'a> {
 }
 
 impl<'x, 'a> Functions<'x, 'a> {
-    /// The functions, which are given with numbers too. Those by name are added from the last to the
-    /// first, so the first of a name stays.
+    /// The functions, which are given with numbers too.
     pub(crate) fn new(
         alloc: Global,
         funcs: &'a [Func],
@@ -40,18 +40,8 @@ impl<'x, 'a> Functions<'x, 'a> {
         ensures funcs { IfOk result (λ functions. functions.funcs.now ≡ funcs.now) }
         ensures program { IfOk result (λ functions. functions.program.now ≡ program.now) }
     {
-        let numbered = program.funcs.as_slice();
-        let mut by_name = IndexMap::new(alloc);
-        let mut i = numbered.len();
-        while i > 0 {
-            i -= 1;
-            let f = &numbered[i];
-            by_name.insert(f.func.name.bytes(), f)?;
-        }
-        let mut by_number = Items::new(alloc);
-        for name in program.names.set.as_slice() {
-            by_number.push(by_name.get(*name).copied())?;
-        }
+        let by_name = first_by_name(alloc, program.funcs.as_slice())?;
+        let by_number = first_by_number(alloc, &by_name, &program.names)?;
         Ok(Functions {
             funcs,
             program,
@@ -79,4 +69,37 @@ impl<'x, 'a> Functions<'x, 'a> {
     {
         self.by_name.get(name).copied()
     }
+}
+
+// The first function of each name. They are added from the last to the first, so the first of a
+// name stays.
+fn first_by_name<'x, 'a>(
+    alloc: Global,
+    funcs: &'x [NumberedFunc<'a>],
+) -> Result<IndexMap<&'a [u8], &'x NumberedFunc<'a>>, NoMemory>
+    ensures { IfOk result (λ by_name. (names : List Name) (x : Name) → option_map (named_function names) (option_copied (get_by (λ k. bytes_eq x k.now) by_name)) ≡ function_named (map (named_function names) funcs.now) x) }
+{
+    let mut by_name = IndexMap::new(alloc);
+    let mut i = funcs.len();
+    while i > 0 {
+        i -= 1;
+        let f = &funcs[i];
+        by_name.insert(f.func.name.bytes(), f)?;
+    }
+    Ok(by_name)
+}
+
+// For each of these names the function that is found by it.
+fn first_by_number<'x, 'a>(
+    alloc: Global,
+    by_name: &IndexMap<&'a [u8], &'x NumberedFunc<'a>>,
+    names: &Names,
+) -> Result<Items<Option<&'x NumberedFunc<'a>>>, NoMemory>
+    ensures { IfOk result (λ found. found ≡ map (λ x. get_by (λ k. bytes_eq x.now k.now) by_name.now) names.now.set.keys) }
+{
+    let mut found = Items::new(alloc);
+    for name in names.set.as_slice() {
+        found.push(by_name.get(*name).copied())?;
+    }
+    Ok(found)
 }
