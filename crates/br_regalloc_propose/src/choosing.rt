@@ -1,8 +1,10 @@
-// Which register a name had best have.
+// Which register or number a name had best have.
 
-use crate::points::{FIXED, Half, Known, MOST, Place, Points, contains, just};
+use crate::points::{Half, Known, Place, Points, REGISTERS, contains, just};
 
-// The first register for names.
+/// How many registers there are for names: from 3 to 31.
+pub(crate) const MOST: u32 = 29;
+
 const FIRST: u32 = 3;
 
 // At which of the registers the search begins: the passing registers, or those after them.
@@ -80,7 +82,31 @@ impl Points {
         best
     }
 
-    /// Takes a register for a name.
+    /// The lowest of 32 numbers from one on that no name beside a name has, or better that of a name
+    /// which it is copied from or to; the greatest word, where all of them are taken.
+    pub(crate) fn choose_number(&self, x: u32, to: &[u32], from: u32) -> u32 {
+        let at = x as usize;
+        if at >= self.names.len() {
+            return u32::MAX;
+        }
+        let known = self.names[at];
+        let taken = self.beside(known).taken;
+        let mut best = u32::MAX;
+        let mut most = 0;
+        for i in 0..REGISTERS {
+            let number = from.saturating_add(i);
+            if !contains(taken, i) {
+                let spared = self.spared(known, number, to);
+                if best == u32::MAX || spared > most {
+                    best = number;
+                    most = spared;
+                }
+            }
+        }
+        best
+    }
+
+    /// Takes a register for a name, or a number counted from the first of the 32.
     pub(crate) fn take(&mut self, x: u32, r: u32) {
         let at = x as usize;
         if at < self.names.len() {
@@ -95,6 +121,13 @@ impl Points {
                 }
                 at = place.before as usize;
             }
+        }
+    }
+
+    /// Forgets what names took.
+    pub(crate) fn give_back(&mut self) {
+        for point in self.points.as_mut_slice().iter_mut() {
+            point.taken = point.fixed;
         }
     }
 
@@ -169,7 +202,7 @@ impl Points {
         if to[other] == r {
             return half.weight.saturating_mul(SAME);
         }
-        if to[other] >= FIXED && contains(self.names[other].wanted, r) {
+        if to[other] >= REGISTERS && contains(self.names[other].wanted, r) {
             return half.weight.saturating_mul(MAYBE_SAME);
         }
         0

@@ -4,13 +4,6 @@ use crate::spans::Span;
 use br_base::NoMemory;
 use std::alloc::Global;
 
-/// A number that names share: to which place it is taken, and what the names weigh together.
-#[derive(Clone, Copy)]
-struct Color {
-    until: u32,
-    weight: u32,
-}
-
 /// The numbers of names, in the order in which they come into use.
 pub(crate) fn colors_of(
     alloc: Global,
@@ -34,17 +27,17 @@ pub(crate) fn colors_of(
 }
 
 // The number of the name that is copied into this one, where it is free, or else the first free one.
-fn free_color(spans: &[Span], to: &[u32], colors: &[Color], s: Span) -> u32 {
+fn free_color(spans: &[Span], to: &[u32], colors: &[u32], s: Span) -> u32 {
     let like = s.like as usize;
     if like < spans.len() && like < to.len() {
         let color = to[like] as usize;
-        if color < colors.len() && spans[like].first < s.first && colors[color].until < s.first {
+        if color < colors.len() && spans[like].first < s.first && colors[color] < s.first {
             return to[like];
         }
     }
     let mut color = 0;
-    for c in colors {
-        if c.until < s.first {
+    for until in colors {
+        if *until < s.first {
             return color;
         }
         if color < u32::MAX {
@@ -54,19 +47,13 @@ fn free_color(spans: &[Span], to: &[u32], colors: &[Color], s: Span) -> u32 {
     color
 }
 
-fn take(colors: &mut Vec<Color>, color: u32, s: Span) -> Result<(), NoMemory> {
+// To which place each number is taken.
+fn take(colors: &mut Vec<u32>, color: u32, s: Span) -> Result<(), NoMemory> {
     let at = color as usize;
     if at < colors.len() {
-        let c = colors[at];
-        colors[at] = Color {
-            until: s.last,
-            weight: c.weight.wrapping_add(s.weight),
-        };
+        colors[at] = s.last;
     } else {
-        colors.push(Color {
-            until: s.last,
-            weight: s.weight,
-        })?;
+        colors.push(s.last)?;
     }
     Ok(())
 }

@@ -11,6 +11,7 @@ mod points;
 mod proposing;
 mod registers;
 mod spans;
+mod weights;
 
 pub use proposing::propose;
 pub use registers::propose_registers;

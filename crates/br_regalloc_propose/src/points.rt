@@ -6,11 +6,11 @@ use br_base::NoMemory;
 use br_flatimp::{Cond, FlatFunc, Operand, Stmt};
 use std::alloc::Global;
 
-/// How many names are registers already: those below it.
-pub(crate) const FIXED: u32 = 32;
+/// How many registers there are.
+pub(crate) const REGISTERS: u32 = 32;
 
-/// How many registers there are for names: from 3 to 31. No more names may be live at a point.
-pub(crate) const MOST: u32 = 29;
+// The most places that are kept: they take 32 MiB of memory.
+const MOST_PLACES: usize = 4_194_304;
 
 // What a name in one more loop weighs more, and the most that one weighs for its loops.
 const HEAVIER: u32 = 8;
@@ -20,6 +20,8 @@ const HEAVIEST: u32 = 32768;
 /// A point in the text of a function.
 #[derive(Clone, Copy)]
 pub(crate) struct Point {
+    /// The registers that are names and live or written there.
+    pub(crate) fixed: u32,
     /// The registers of names that are live or written there, as far as they are known.
     pub(crate) taken: u32,
     /// The registers that such names had best have, since their words come from there or go there.
@@ -68,10 +70,13 @@ pub(crate) struct Points {
     pub(crate) halves: Vec<Half>,
     /// The registers that the function changes, as far as they are known.
     pub(crate) changed: u32,
-    /// More names are live at a point than there are registers; then nothing else is known.
+    /// More names are live at a point than may be, or there are too many places; then nothing else is
+    /// known.
     pub(crate) is_full: bool,
     turns: Vec<NameSet>,
     weight: u32,
+    fixed: u32,
+    most: u32,
 }
 
 /// One register.
@@ -85,8 +90,15 @@ pub(crate) fn contains(set: u32, r: u32) -> bool {
 }
 
 impl Points {
-    /// Those of a function, where it is known what the calls of each function change.
-    pub(crate) fn new(alloc: Global, f: &FlatFunc, changes: &[u32]) -> Result<Points, NoMemory> {
+    /// Those of a function, where it is known what the calls of each function change. The names below
+    /// `fixed`, which is 0 or 32, are registers, and at most so many names may be live at a point.
+    pub(crate) fn new(
+        alloc: Global,
+        f: &FlatFunc,
+        changes: &[u32],
+        fixed: u32,
+        most: u32,
+    ) -> Result<Points, NoMemory> {
         let unknown = Known {
             weight: 0,
             places: 0,
@@ -104,6 +116,8 @@ impl Points {
             is_full: false,
             turns: turns_of(alloc, f.names, f.body.as_slice())?,
             weight: 1,
+            fixed,
+            most,
         };
         let mut live = NameSet::new(alloc, f.names)?;
         points.read(f.results.as_slice(), &mut live);
@@ -258,7 +272,7 @@ impl Points {
     fn join(&mut self, x: u32, other: u32) -> Result<(), NoMemory> {
         let number = self.halves.len();
         let at = x as usize;
-        if x >= FIXED && at < self.names.len() && number < u32::MAX as usize {
+        if x >= self.fixed && at < self.names.len() && number < u32::MAX as usize {
             let known = self.names[at];
             self.halves.push(Half {
                 other,
@@ -280,25 +294,25 @@ impl Points {
         if self.is_full || number >= u32::MAX as usize {
             return Ok(());
         }
-        let mut taken = 0;
+        let mut fixed = 0;
         let mut count = 0u32;
         let mut from = 0u32;
         for word in live.words() {
-            if from < FIXED {
-                taken = *word;
+            count = count.saturating_add(word.count_ones());
+            if count > self.most || self.places.len() >= MOST_PLACES {
+                self.is_full = true;
+                return Ok(());
+            }
+            if from < self.fixed {
+                fixed = *word;
             } else if *word != 0 {
                 self.place_each(from, *word, number as u32)?;
-                count = count.saturating_add(word.count_ones());
-                if count > MOST {
-                    self.is_full = true;
-                    return Ok(());
-                }
             }
             from = from.saturating_add(32);
         }
-        self.is_full = count.saturating_add(taken.count_ones()) > MOST;
         self.points.push(Point {
-            taken,
+            fixed,
+            taken: fixed,
             wanted: 0,
             changed,
             weight: if changed == 0 { 0 } else { self.weight },
@@ -309,7 +323,7 @@ impl Points {
     // The names of a word of a set at a point.
     fn place_each(&mut self, from: u32, word: u32, point: u32) -> Result<(), NoMemory> {
         let mut rest = word;
-        for _bit in 0..32u32 {
+        for _bit in 0..REGISTERS {
             if rest == 0 {
                 return Ok(());
             }

@@ -3,7 +3,9 @@
 ghost use Rattle.std.specs.Prelude.{◌≡◌, IfOk, length};
 
 use crate::callees::Calls;
-use crate::points::{FIXED, Points};
+use crate::choosing::MOST;
+use crate::points::{Points, REGISTERS};
+use crate::weights::{Key, in_order};
 use br_base::NoMemory;
 use br_flatimp::{FlatFunc, FlatProgram, Proposal};
 use sqlite_items::Items;
@@ -22,10 +24,11 @@ struct Given {
 /// number. Nothing is promised of them.
 ///
 /// Callees come first, so that a name that outlasts a call can keep out of what the callee changes. The
-/// names of a function get their registers in the order of their weight: where it can a name gets the
-/// register of a name that it is copied from or to, and else the one that costs least. It takes a few
-/// steps for each name that is live at each point, of which there are at most 29, and for each 32 names
-/// at each point one more; and eight bytes of memory for each name that is live at a point.
+/// names of a function get their registers in the order of their weight, and where these do not
+/// suffice in the order of the text: where it can a name gets the register of a name that it is copied
+/// from or to, and else the one that costs least. It takes a few steps for each name that is live at each
+/// point, of which there are at most 29, and for each 32 names at each point one more; and eight bytes
+/// of memory for each name that is live at a point.
 pub fn propose_registers(alloc: Global, p: &FlatProgram) -> Result<Vec<Proposal>, NoMemory>
     ensures { IfOk result (λ ps. length ps.items ≡ length p.now.funcs) }
 {
@@ -67,7 +70,7 @@ fn registers_for(
     is_called: bool,
 ) -> Result<Given, NoMemory> {
     let mut to = same_names(alloc, f.names)?;
-    let mut points = Points::new(alloc, f, changes)?;
+    let mut points = Points::new(alloc, f, changes, REGISTERS, MOST)?;
     if points.is_full {
         return Ok(Given {
             to,
@@ -75,19 +78,39 @@ fn registers_for(
         });
     }
     points.want_each();
-    let order = heaviest_first(alloc, &points)?;
-    for x in &order {
-        let r = points.choose(*x, to.as_slice(), is_called);
-        let at = *x as usize;
-        if r < FIXED && at < to.len() {
-            to[at] = r;
-            points.take(*x, r);
-        }
+    let changed = points.changed;
+    let heaviest = in_order(alloc, &points, REGISTERS, Key::Weight)?;
+    if give_each(&mut points, &mut to, heaviest.as_slice(), is_called) {
+        return Ok(Given {
+            to,
+            changed: points.changed,
+        });
     }
+    points.give_back();
+    points.changed = changed;
+    let mut to = same_names(alloc, f.names)?;
+    let earliest = in_order(alloc, &points, REGISTERS, Key::Place)?;
+    give_each(&mut points, &mut to, earliest.as_slice(), is_called);
     Ok(Given {
         to,
         changed: points.changed,
     })
+}
+
+// Gives names registers one after the other, and answers whether there was one for each.
+fn give_each(points: &mut Points, to: &mut Vec<u32>, order: &[u32], is_called: bool) -> bool {
+    let mut is_enough = true;
+    for x in order {
+        let r = points.choose(*x, to.as_slice(), is_called);
+        let at = *x as usize;
+        if r < REGISTERS && at < to.len() {
+            to[at] = r;
+            points.take(*x, r);
+        } else {
+            is_enough = false;
+        }
+    }
+    is_enough
 }
 
 // So many names, each as it is.
@@ -97,24 +120,4 @@ fn same_names(alloc: Global, names: u32) -> Result<Vec<u32>, NoMemory> {
         to.push(x)?;
     }
     Ok(to)
-}
-
-// The names that are no registers and in use, the heaviest first.
-fn heaviest_first(alloc: Global, points: &Points) -> Result<Vec<u32>, NoMemory> {
-    let mut keyed = Vec::new(alloc);
-    let mut x = 0;
-    for known in &points.names {
-        if x >= FIXED && known.weight > 0 {
-            keyed.push((u32::MAX - known.weight, x))?;
-        }
-        if x < u32::MAX {
-            x += 1;
-        }
-    }
-    keyed.sort()?;
-    let mut order = Vec::new(alloc);
-    for (_, x) in &keyed {
-        order.push(*x)?;
-    }
-    Ok(order)
 }

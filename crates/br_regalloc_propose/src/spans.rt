@@ -1,6 +1,8 @@
 // From where to where names are in use, in the order of the text.
 
-use br_flatimp::{Cond, Operand, Stmt};
+use br_base::NoMemory;
+use br_flatimp::{Cond, FlatFunc, Operand, Stmt};
+use std::alloc::Global;
 
 /// Where a name is in use: from its first place to its last, where a statement reads at one place and
 /// writes at the next.
@@ -8,34 +10,45 @@ use br_flatimp::{Cond, Operand, Stmt};
 pub(crate) struct Span {
     pub(crate) first: u32,
     pub(crate) last: u32,
-    /// How often it is read and written; each loop around counts eight times.
-    pub(crate) weight: u32,
     /// The name that is copied into it.
     pub(crate) like: u32,
 }
 
 impl Span {
-    /// That of a name that is not in use.
-    pub(crate) fn new() -> Span {
+    // That of a name that is not in use.
+    fn new() -> Span {
         Span {
             first: u32::MAX,
             last: 0,
-            weight: 0,
             like: u32::MAX,
         }
     }
 }
 
-/// A place in the text of a function, and the loops around it.
+// A place in the text of a function, and whether a loop is around it.
 #[derive(Clone, Copy)]
-pub(crate) struct Place {
-    pub(crate) now: u32,
-    pub(crate) weight: u32,
+struct Place {
+    now: u32,
+    is_in_loop: bool,
 }
 
-/// Goes over statements, and notes where each name is in use.
+/// Where each name of a function is in use, without a look at whether its word is read later.
+pub(crate) fn spans_of(alloc: Global, f: &FlatFunc) -> Result<Vec<Span>, NoMemory> {
+    let mut spans = vec![in alloc; Span::new(); f.names as usize]?;
+    let mut place = Place {
+        now: 0,
+        is_in_loop: false,
+    };
+    read_each(f.args.as_slice(), place, spans.as_mut_slice());
+    place.now = 1;
+    note_all(f.body.as_slice(), &mut place, spans.as_mut_slice());
+    read_each(f.results.as_slice(), place, spans.as_mut_slice());
+    Ok(spans)
+}
+
+// Goes over statements, and notes where each name is in use.
 #[cycle(spans)]
-pub(crate) fn note_all(body: &[Stmt], place: &mut Place, spans: &mut [Span]) {
+fn note_all(body: &[Stmt], place: &mut Place, spans: &mut [Span]) {
     for s in body {
         note(s, place, spans);
     }
@@ -77,13 +90,13 @@ fn note(s: &Stmt, place: &mut Place, spans: &mut [Span]) {
         Stmt::Loop(first, test, last) => {
             let outside = *place;
             step(place);
-            place.weight = heavier(place.weight);
+            place.is_in_loop = true;
             note_all(first.as_slice(), place, spans);
             read_test(*test, *place, spans);
             step(place);
             note_all(last.as_slice(), place, spans);
-            place.weight = outside.weight;
-            if outside.weight == 1 {
+            place.is_in_loop = outside.is_in_loop;
+            if !outside.is_in_loop {
                 stretch(outside.now, place.now, spans);
             }
             step(place);
@@ -93,11 +106,6 @@ fn note(s: &Stmt, place: &mut Place, spans: &mut [Span]) {
             write_each(xs.as_slice(), place, spans);
         }
     }
-}
-
-// What a name in one more loop weighs.
-fn heavier(weight: u32) -> u32 {
-    if weight < 4096 { weight * 8 } else { weight }
 }
 
 fn step(place: &mut Place) {
@@ -116,8 +124,8 @@ fn stretch(from: u32, to: u32, spans: &mut [Span]) {
     }
 }
 
-/// Notes that names are read at a place.
-pub(crate) fn read_each(xs: &[u32], place: Place, spans: &mut [Span]) {
+// Notes that names are read at a place.
+fn read_each(xs: &[u32], place: Place, spans: &mut [Span]) {
     for x in xs {
         read(*x, place, spans);
     }
@@ -161,7 +169,6 @@ fn read(x: u32, place: Place, spans: &mut [Span]) {
         spans[at] = Span {
             first: least(s.first, place.now),
             last: most(s.last, place.now),
-            weight: s.weight.wrapping_add(place.weight),
             like: s.like,
         };
     }
