@@ -1,5 +1,5 @@
 -- A program in register form whose code is its items one after another is laid as the laws of entries ask.
-use Rattle.std.proofs.Common.{◌≡◌, ℕ, zero, suc, ◌+◌, ◌-◌, ◌*◌, ◌%◌, ◌<◌, ◌≤◌, ◌==◌, ◌&&◌, ◌||◌, nat_le, if◌then◌else◌, max, List, [], ◌∷◌, ◌++◌, map, length, sum, Option, Some, Bool, true, false, IsTrue, refl, sym, ap, subst, ◌∙◌, arith, append_assoc, length-append}
+use Rattle.std.proofs.Common.{◌≡◌, ℕ, zero, suc, ◌+◌, ◌-◌, ◌*◌, ◌%◌, ◌<◌, ◌≤◌, ◌==◌, ◌&&◌, ◌||◌, not, nat_le, nat_lt, if◌then◌else◌, max, List, [], ◌∷◌, ◌++◌, map, length, sum, Option, Some, Bool, true, false, IsTrue, refl, sym, ap, subst, ◌∙◌, arith, append_assoc, length-append}
 use Rattle.std.specs.Prelude.{slice_get, IfSome}
 use Rattle.br_words.specs.Words.{IsWord}
 use Rattle.std.specs.List.{list_all, list_any, flat_map}
@@ -18,7 +18,7 @@ use Rattle.br_bytes.specs.Buffers.{AreWords}
 use Rattle.br_machine.specs.Start.{Leftover, IsLeftover, IsInData}
 use Rattle.br_machine.specs.State.{MachineState, IsMachine}
 use Rattle.br_machine.specs.Step.{step}
-use Rattle.br_emit.specs.Code.{Item, item_word, words_at, entry_place, AllFit, Targets, written_names, changes, is_called, saved_bytes, callable_items, entry_items, direct_items, function_items, program_items, places}
+use Rattle.br_emit.specs.Code.{Item, item_word, words_at, entry_place, AllFit, Targets, written_names, changes, keeps_link, links, touches, is_called, framed_bytes, callable_items, entry_items, direct_items, function_items, program_items, places}
 use Rattle.br_emit.specs.Laid.{Placed, is_fine, may_call, Function, Laid, callee_need, IsCodeOf, EntryShown}
 use Rattle.br_emit.proofs.Stepping.{Table}
 use Rattle.br_emit.proofs.Pieces.{placed-front, placed-back}
@@ -136,28 +136,33 @@ parts_map f (Stmt-F.Call xs g ys) = refl
 parts_map f (Stmt-F.Read x y) = refl
 parts_map f (Stmt-F.Write y z) = refl
 
+-- a statement that changes x1 only where it may
+abbrev keeps : {X : Type 0} → (ℕ → Bool) → Stmt-F X → Bool
+keeps touched y = touched 1 || keeps_link y
+
 -- what a layer says of itself does not look into its parts
 record SameLayer {A B : Type 0} (fs : List FlatFunc) (names : ℕ) (touched called : ℕ → Bool) (f : A → B) (y : Stmt-F A) : Type 0 where
   fitting : fits fs names (map-Stmt A B f y) ≡ fits fs names y
   using : uses_registers (map-Stmt A B f y) ≡ uses_registers y
   fine : is_fine fs touched called (map-Stmt A B f y) ≡ is_fine fs touched called y
+  keeping : keeps touched (map-Stmt A B f y) ≡ keeps touched y
   writing : written (map-Stmt A B f y) ≡ written y
   calling : own_callees (map-Stmt A B f y) ≡ own_callees y
   size : own_bytes (map-Stmt A B f y) ≡ own_bytes y
 
 same_layer : {A B : Type 0} (fs : List FlatFunc) (names : ℕ) (touched called : ℕ → Bool) (f : A → B) (y : Stmt-F A) → SameLayer fs names touched called f y
-same_layer fs names touched called f (Stmt-F.Lit x n) = record { fitting = refl; using = refl; fine = refl; writing = refl; calling = refl; size = refl }
-same_layer fs names touched called f (Stmt-F.Copy x y) = record { fitting = refl; using = refl; fine = refl; writing = refl; calling = refl; size = refl }
-same_layer fs names touched called f (Stmt-F.Op x o y z) = record { fitting = refl; using = refl; fine = refl; writing = refl; calling = refl; size = refl }
-same_layer fs names touched called f (Stmt-F.Load x size y offset) = record { fitting = refl; using = refl; fine = refl; writing = refl; calling = refl; size = refl }
-same_layer fs names touched called f (Stmt-F.Store size y z offset) = record { fitting = refl; using = refl; fine = refl; writing = refl; calling = refl; size = refl }
-same_layer fs names touched called f (Stmt-F.Table x size bytes y) = record { fitting = refl; using = refl; fine = refl; writing = refl; calling = refl; size = refl }
-same_layer fs names touched called f (Stmt-F.Stackalloc x n body) = record { fitting = refl; using = refl; fine = refl; writing = refl; calling = refl; size = refl }
-same_layer fs names touched called f (Stmt-F.If test first second) = record { fitting = refl; using = refl; fine = refl; writing = refl; calling = refl; size = refl }
-same_layer fs names touched called f (Stmt-F.Loop first test last) = record { fitting = refl; using = refl; fine = refl; writing = refl; calling = refl; size = refl }
-same_layer fs names touched called f (Stmt-F.Call xs g ys) = record { fitting = refl; using = refl; fine = refl; writing = refl; calling = refl; size = refl }
-same_layer fs names touched called f (Stmt-F.Read x y) = record { fitting = refl; using = refl; fine = refl; writing = refl; calling = refl; size = refl }
-same_layer fs names touched called f (Stmt-F.Write y z) = record { fitting = refl; using = refl; fine = refl; writing = refl; calling = refl; size = refl }
+same_layer fs names touched called f (Stmt-F.Lit x n) = record { fitting = refl; using = refl; fine = refl; keeping = refl; writing = refl; calling = refl; size = refl }
+same_layer fs names touched called f (Stmt-F.Copy x y) = record { fitting = refl; using = refl; fine = refl; keeping = refl; writing = refl; calling = refl; size = refl }
+same_layer fs names touched called f (Stmt-F.Op x o y z) = record { fitting = refl; using = refl; fine = refl; keeping = refl; writing = refl; calling = refl; size = refl }
+same_layer fs names touched called f (Stmt-F.Load x size y offset) = record { fitting = refl; using = refl; fine = refl; keeping = refl; writing = refl; calling = refl; size = refl }
+same_layer fs names touched called f (Stmt-F.Store size y z offset) = record { fitting = refl; using = refl; fine = refl; keeping = refl; writing = refl; calling = refl; size = refl }
+same_layer fs names touched called f (Stmt-F.Table x size bytes y) = record { fitting = refl; using = refl; fine = refl; keeping = refl; writing = refl; calling = refl; size = refl }
+same_layer fs names touched called f (Stmt-F.Stackalloc x n body) = record { fitting = refl; using = refl; fine = refl; keeping = refl; writing = refl; calling = refl; size = refl }
+same_layer fs names touched called f (Stmt-F.If test first second) = record { fitting = refl; using = refl; fine = refl; keeping = refl; writing = refl; calling = refl; size = refl }
+same_layer fs names touched called f (Stmt-F.Loop first test last) = record { fitting = refl; using = refl; fine = refl; keeping = refl; writing = refl; calling = refl; size = refl }
+same_layer fs names touched called f (Stmt-F.Call xs g ys) = record { fitting = refl; using = refl; fine = refl; keeping = refl; writing = refl; calling = refl; size = refl }
+same_layer fs names touched called f (Stmt-F.Read x y) = record { fitting = refl; using = refl; fine = refl; keeping = refl; writing = refl; calling = refl; size = refl }
+same_layer fs names touched called f (Stmt-F.Write y z) = record { fitting = refl; using = refl; fine = refl; keeping = refl; writing = refl; calling = refl; size = refl }
 
 in_left : (xs ys : List ℕ) (x : ℕ) → is_in xs x ≡ true → is_in (xs ++ ys) x ≡ true
 in_left [] ys x h = absurd (cc)
@@ -188,7 +193,7 @@ all_in p (x ∷ xs) h = and_of (p x) (list_all p xs) (h x (here x (is_in xs x)))
 -- what is asked of a statement, and what follows
 abbrev FineClaim : List FlatFunc → ℕ → (ℕ → Bool) → (ℕ → Bool) → Stmt → Type 0
 FineClaim fs names touched called st =
-    IsTrue (throughout (fits fs names) st) → IsTrue (throughout uses_registers st)
+    IsTrue (throughout (fits fs names) st) → IsTrue (throughout uses_registers st) → IsTrue (throughout (keeps touched) st)
     → ((x : ℕ) → is_in (gathered written st) x ≡ true → touched x ≡ true)
     → ((g : ℕ) → is_in (gathered own_callees st) g ≡ true → called g ≡ true)
     → IsTrue (throughout (is_fine fs touched called) st)
@@ -198,47 +203,52 @@ FineClaimed fs names touched called = (st : Stmt) × FineClaim fs names touched 
 
 each_fine : (fs : List FlatFunc) (names : ℕ) (touched called : ℕ → Bool) (cs : List (FineClaimed fs names touched called))
     → IsTrue (list_all (λ ok. ok) (map (throughout (fits fs names)) (map (λ e. e.0) cs))) → IsTrue (list_all (λ ok. ok) (map (throughout uses_registers) (map (λ e. e.0) cs)))
+    → IsTrue (list_all (λ ok. ok) (map (throughout (keeps touched)) (map (λ e. e.0) cs)))
     → ((x : ℕ) → is_in (flat_map (λ xs. xs) (map (gathered written) (map (λ e. e.0) cs))) x ≡ true → touched x ≡ true)
     → ((g : ℕ) → is_in (flat_map (λ xs. xs) (map (gathered own_callees) (map (λ e. e.0) cs))) g ≡ true → called g ≡ true)
     → IsTrue (list_all (λ ok. ok) (map (throughout (is_fine fs touched called)) (map (λ e. e.0) cs)))
-each_fine fs names touched called [] h k w c = refl
-each_fine fs names touched called (e ∷ cs) h k w c =
+each_fine fs names touched called [] h k m w c = refl
+each_fine fs names touched called (e ∷ cs) h k m w c =
     let h2 = both (throughout (fits fs names) e.0) (list_all (λ ok. ok) (map (throughout (fits fs names)) (map (λ e. e.0) cs))) h in
     let k2 = both (throughout uses_registers e.0) (list_all (λ ok. ok) (map (throughout uses_registers) (map (λ e. e.0) cs))) k in
+    let m2 = both (throughout (keeps touched) e.0) (list_all (λ ok. ok) (map (throughout (keeps touched)) (map (λ e. e.0) cs))) m in
     and_of (throughout (is_fine fs touched called) e.0) (list_all (λ ok. ok) (map (throughout (is_fine fs touched called)) (map (λ e. e.0) cs)))
-    (e.1 h2.0 k2.0 (λ x l. w x (in_left (gathered written e.0) (flat_map (λ xs. xs) (map (gathered written) (map (λ e. e.0) cs))) x l)) (λ g l. c g (in_left (gathered own_callees e.0) (flat_map (λ xs. xs) (map (gathered own_callees) (map (λ e. e.0) cs))) g l)))
-    (each_fine fs names touched called cs h2.1 k2.1 (λ x l. w x (in_right (gathered written e.0) (flat_map (λ xs. xs) (map (gathered written) (map (λ e. e.0) cs))) x l)) (λ g l. c g (in_right (gathered own_callees e.0) (flat_map (λ xs. xs) (map (gathered own_callees) (map (λ e. e.0) cs))) g l)))
+    (e.1 h2.0 k2.0 m2.0 (λ x l. w x (in_left (gathered written e.0) (flat_map (λ xs. xs) (map (gathered written) (map (λ e. e.0) cs))) x l)) (λ g l. c g (in_left (gathered own_callees e.0) (flat_map (λ xs. xs) (map (gathered own_callees) (map (λ e. e.0) cs))) g l)))
+    (each_fine fs names touched called cs h2.1 k2.1 m2.1 (λ x l. w x (in_right (gathered written e.0) (flat_map (λ xs. xs) (map (gathered written) (map (λ e. e.0) cs))) x l)) (λ g l. c g (in_right (gathered own_callees e.0) (flat_map (λ xs. xs) (map (gathered own_callees) (map (λ e. e.0) cs))) g l)))
 
 lists_fine : (fs : List FlatFunc) (names : ℕ) (touched called : ℕ → Bool) (css : List (List (FineClaimed fs names touched called)))
     → IsTrue (list_all (list_all (λ ok. ok)) (map (map (throughout (fits fs names))) (map (map (λ e. e.0)) css))) → IsTrue (list_all (list_all (λ ok. ok)) (map (map (throughout uses_registers)) (map (map (λ e. e.0)) css)))
+    → IsTrue (list_all (list_all (λ ok. ok)) (map (map (throughout (keeps touched))) (map (map (λ e. e.0)) css)))
     → ((x : ℕ) → is_in (flat_map (flat_map (λ xs. xs)) (map (map (gathered written)) (map (map (λ e. e.0)) css))) x ≡ true → touched x ≡ true)
     → ((g : ℕ) → is_in (flat_map (flat_map (λ xs. xs)) (map (map (gathered own_callees)) (map (map (λ e. e.0)) css))) g ≡ true → called g ≡ true)
     → IsTrue (list_all (list_all (λ ok. ok)) (map (map (throughout (is_fine fs touched called))) (map (map (λ e. e.0)) css)))
-lists_fine fs names touched called [] h k w c = refl
-lists_fine fs names touched called (cs ∷ css) h k w c =
+lists_fine fs names touched called [] h k m w c = refl
+lists_fine fs names touched called (cs ∷ css) h k m w c =
     let h2 = both (list_all (λ ok. ok) (map (throughout (fits fs names)) (map (λ e. e.0) cs))) (list_all (list_all (λ ok. ok)) (map (map (throughout (fits fs names))) (map (map (λ e. e.0)) css))) h in
     let k2 = both (list_all (λ ok. ok) (map (throughout uses_registers) (map (λ e. e.0) cs))) (list_all (list_all (λ ok. ok)) (map (map (throughout uses_registers)) (map (map (λ e. e.0)) css))) k in
+    let m2 = both (list_all (λ ok. ok) (map (throughout (keeps touched)) (map (λ e. e.0) cs))) (list_all (list_all (λ ok. ok)) (map (map (throughout (keeps touched))) (map (map (λ e. e.0)) css))) m in
     let w1 = flat_map (λ xs. xs) (map (gathered written) (map (λ e. e.0) cs)) in
     let w2 = flat_map (flat_map (λ xs. xs)) (map (map (gathered written)) (map (map (λ e. e.0)) css)) in
     let c1 = flat_map (λ xs. xs) (map (gathered own_callees) (map (λ e. e.0) cs)) in
     let c2 = flat_map (flat_map (λ xs. xs)) (map (map (gathered own_callees)) (map (map (λ e. e.0)) css)) in
     and_of (list_all (λ ok. ok) (map (throughout (is_fine fs touched called)) (map (λ e. e.0) cs))) (list_all (list_all (λ ok. ok)) (map (map (throughout (is_fine fs touched called))) (map (map (λ e. e.0)) css)))
-    (each_fine fs names touched called cs h2.0 k2.0 (λ x l. w x (in_left w1 w2 x l)) (λ g l. c g (in_left c1 c2 g l)))
-    (lists_fine fs names touched called css h2.1 k2.1 (λ x l. w x (in_right w1 w2 x l)) (λ g l. c g (in_right c1 c2 g l)))
+    (each_fine fs names touched called cs h2.0 k2.0 m2.0 (λ x l. w x (in_left w1 w2 x l)) (λ g l. c g (in_left c1 c2 g l)))
+    (lists_fine fs names touched called css h2.1 k2.1 m2.1 (λ x l. w x (in_right w1 w2 x l)) (λ g l. c g (in_right c1 c2 g l)))
 
 -- a layer is fine by itself
-own_fine : {X : Type 0} (fs : List FlatFunc) (names : ℕ) (touched called : ℕ → Bool) (y : Stmt-F X) → IsTrue (fits fs names y) → IsTrue (uses_registers y)
+own_fine : {X : Type 0} (fs : List FlatFunc) (names : ℕ) (touched called : ℕ → Bool) (y : Stmt-F X) → IsTrue (fits fs names y) → IsTrue (uses_registers y) → IsTrue (keeps touched y)
     → ((x : ℕ) → is_in (written y) x ≡ true → touched x ≡ true) → ((g : ℕ) → is_in (own_callees y) g ≡ true → called g ≡ true) → IsTrue (is_fine fs touched called y)
-own_fine fs names touched called y h k w c =
+own_fine fs names touched called y h k m w c =
     let values = (both (are_below names (written y) && are_below names (read y)) (values_fit fs y) h).1 in
-    and_of (uses_registers y && values_fit fs y && list_all touched (written y)) (list_all called (own_callees y))
-    (and_of (uses_registers y && values_fit fs y) (list_all touched (written y)) (and_of (uses_registers y) (values_fit fs y) k values) (all_in touched (written y) w)) (all_in called (own_callees y) c)
+    and_of (uses_registers y && values_fit fs y && list_all touched (written y) && list_all called (own_callees y)) (keeps touched y)
+    (and_of (uses_registers y && values_fit fs y && list_all touched (written y)) (list_all called (own_callees y))
+    (and_of (uses_registers y && values_fit fs y) (list_all touched (written y)) (and_of (uses_registers y) (values_fit fs y) k values) (all_in touched (written y) w)) (all_in called (own_callees y) c)) m
 
 pub statement_fine : (fs : List FlatFunc) (names : ℕ) (touched called : ℕ → Bool) (st : Stmt) → FineClaim fs names touched called st
 statement_fine fs names touched called = ind-Stmt (FineClaim fs names touched called) (λ x y is. subst (λ z. FineClaim fs names touched called (roll-Stmt z)) is (layer y))
   where
     layer : (y : Stmt-F (FineClaimed fs names touched called)) → FineClaim fs names touched called (roll-Stmt (map-Stmt (FineClaimed fs names touched called) Stmt (λ e. e.0) y))
-    layer y h k w c =
+    layer y h k m w c =
         let z = map-Stmt (FineClaimed fs names touched called) Stmt (λ e. e.0) y in
         let ps = parts_map (λ e. e.0) y in
         let rolled : (test : Stmt-F Bool → Bool) → throughout test (roll-Stmt z) ≡ (test (map-Stmt Stmt Bool (throughout test) z) && list_all (list_all (λ ok. ok)) (map (map (throughout test)) (parts z))) =
@@ -247,6 +257,7 @@ statement_fine fs names touched called = ind-Stmt (FineClaim fs names touched ca
         λ own. fold-roll-Stmt (List ℕ) (λ y. own y ++ flat_map (flat_map (λ xs. xs)) (parts y)) z ∙ ap (λ q. own (map-Stmt Stmt (List ℕ) (gathered own) z) ++ flat_map (flat_map (λ xs. xs)) q) (parts_map (gathered own) z) in
         let h2 = both _ _ (subst IsTrue (rolled (fits fs names)) h) in
         let k2 = both _ _ (subst IsTrue (rolled uses_registers) k) in
+        let m2 = both _ _ (subst IsTrue (rolled (keeps touched)) m) in
         let w1 = (same_layer fs names touched called (gathered written) z).writing in
         let c1 = (same_layer fs names touched called (gathered own_callees) z).calling in
         let writes : (x : ℕ) → is_in (written z ++ flat_map (flat_map (λ xs. xs)) (map (map (gathered written)) (parts z))) x ≡ true → touched x ≡ true =
@@ -256,10 +267,12 @@ statement_fine fs names touched called = ind-Stmt (FineClaim fs names touched ca
         let own = own_fine fs names touched called z
         (subst IsTrue (same_layer fs names touched called (throughout (fits fs names)) z).fitting h2.0)
         (subst IsTrue (same_layer fs names touched called (throughout uses_registers) z).using k2.0)
+        (subst IsTrue (same_layer fs names touched called (throughout (keeps touched)) z).keeping m2.0)
         (λ x l. writes x (in_left (written z) _ x l)) (λ g l. calls g (in_left (own_callees z) _ g l)) in
         let inner = lists_fine fs names touched called (parts y)
         (subst (λ q. IsTrue (list_all (list_all (λ ok. ok)) (map (map (throughout (fits fs names))) q))) ps h2.1)
         (subst (λ q. IsTrue (list_all (list_all (λ ok. ok)) (map (map (throughout uses_registers)) q))) ps k2.1)
+        (subst (λ q. IsTrue (list_all (list_all (λ ok. ok)) (map (map (throughout (keeps touched))) q))) ps m2.1)
         (subst (λ q. (x : ℕ) → is_in (flat_map (flat_map (λ xs. xs)) (map (map (gathered written)) q)) x ≡ true → touched x ≡ true) ps (λ x l. writes x (in_right (written z) _ x l)))
         (subst (λ q. (g : ℕ) → is_in (flat_map (flat_map (λ xs. xs)) (map (map (gathered own_callees)) q)) g ≡ true → called g ≡ true) ps (λ g l. calls g (in_right (own_callees z) _ g l))) in
         subst IsTrue (sym (rolled (is_fine fs touched called)))
@@ -334,16 +347,17 @@ body_fours fs names (st ∷ body) h =
     let h2 = both (throughout (fits fs names) st) (list_all (throughout (fits fs names)) body) h in
     max_fours (statement_nest st) (largest (map statement_nest body)) (statement_fours fs names st h2.0) (body_fours fs names body h2.1)
 
-body_fine : (fs : List FlatFunc) (names : ℕ) (touched called : ℕ → Bool) (body : List Stmt) → IsTrue (list_all (throughout (fits fs names)) body) → IsTrue (list_all (throughout uses_registers) body)
+body_fine : (fs : List FlatFunc) (names : ℕ) (touched called : ℕ → Bool) (body : List Stmt) → IsTrue (list_all (throughout (fits fs names)) body) → IsTrue (list_all (throughout uses_registers) body) → IsTrue (list_all (throughout (keeps touched)) body)
     → ((x : ℕ) → is_in (flat_map (gathered written) body) x ≡ true → touched x ≡ true) → ((g : ℕ) → is_in (flat_map (gathered own_callees) body) g ≡ true → called g ≡ true)
     → IsTrue (list_all (throughout (is_fine fs touched called)) body)
-body_fine fs names touched called [] h k w c = refl
-body_fine fs names touched called (st ∷ body) h k w c =
+body_fine fs names touched called [] h k m w c = refl
+body_fine fs names touched called (st ∷ body) h k m w c =
     let h2 = both (throughout (fits fs names) st) (list_all (throughout (fits fs names)) body) h in
     let k2 = both (throughout uses_registers st) (list_all (throughout uses_registers) body) k in
+    let m2 = both (throughout (keeps touched) st) (list_all (throughout (keeps touched)) body) m in
     and_of (throughout (is_fine fs touched called) st) (list_all (throughout (is_fine fs touched called)) body)
-    (statement_fine fs names touched called st h2.0 k2.0 (λ x l. w x (in_left (gathered written st) (flat_map (gathered written) body) x l)) (λ g l. c g (in_left (gathered own_callees st) (flat_map (gathered own_callees) body) g l)))
-    (body_fine fs names touched called body h2.1 k2.1 (λ x l. w x (in_right (gathered written st) (flat_map (gathered written) body) x l)) (λ g l. c g (in_right (gathered own_callees st) (flat_map (gathered own_callees) body) g l)))
+    (statement_fine fs names touched called st h2.0 k2.0 m2.0 (λ x l. w x (in_left (gathered written st) (flat_map (gathered written) body) x l)) (λ g l. c g (in_left (gathered own_callees st) (flat_map (gathered own_callees) body) g l)))
+    (body_fine fs names touched called body h2.1 k2.1 m2.1 (λ x l. w x (in_right (gathered written st) (flat_map (gathered written) body) x l)) (λ g l. c g (in_right (gathered own_callees st) (flat_map (gathered own_callees) body) g l)))
 
 -- ---- functions
 
@@ -359,6 +373,47 @@ at_most a b h = grind (arith, nat_tests)
 
 few_names : (names : ℕ) (xs : List ℕ) → IsTrue (is_list_of_names names xs) → length xs ≤ 8
 few_names names xs h = let k = (both (nat_le (length xs) 8) (are_below names xs) (both (nat_le (length xs) 8 && are_below names xs) (all_differ xs) h).0).0 in grind (arith, nat_tests)
+
+-- x1 may be changed, or no statement changes it
+pub throughout_true : (st : Stmt) → IsTrue (throughout (λ y. true) st)
+throughout_true = ind-Stmt (λ st. IsTrue (throughout (λ y. true) st)) (λ x y is. subst (λ z. IsTrue (throughout (λ y. true) (roll-Stmt z))) is (layer y))
+  where
+    each : (cs : List ((st : Stmt) × IsTrue (throughout (λ y. true) st))) → IsTrue (list_all (λ ok. ok) (map (throughout (λ y. true)) (map (λ e. e.0) cs)))
+    each [] = refl
+    each (e ∷ cs) = and_of (throughout (λ y. true) e.0) (list_all (λ ok. ok) (map (throughout (λ y. true)) (map (λ e. e.0) cs))) e.1 (each cs)
+
+    lists : (css : List (List ((st : Stmt) × IsTrue (throughout (λ y. true) st)))) → IsTrue (list_all (list_all (λ ok. ok)) (map (map (throughout (λ y. true))) (map (map (λ e. e.0)) css)))
+    lists [] = refl
+    lists (cs ∷ css) = and_of (list_all (λ ok. ok) (map (throughout (λ y. true)) (map (λ e. e.0) cs))) (list_all (list_all (λ ok. ok)) (map (map (throughout (λ y. true))) (map (map (λ e. e.0)) css))) (each cs) (lists css)
+
+    layer : (y : Stmt-F ((st : Stmt) × IsTrue (throughout (λ y. true) st))) → IsTrue (throughout (λ y. true) (roll-Stmt (map-Stmt ((st : Stmt) × IsTrue (throughout (λ y. true) st)) Stmt (λ e. e.0) y)))
+    layer y =
+        let z = map-Stmt ((st : Stmt) × IsTrue (throughout (λ y. true) st)) Stmt (λ e. e.0) y in
+        let rolled : throughout (λ y. true) (roll-Stmt z) ≡ list_all (list_all (λ ok. ok)) (map (map (throughout (λ y. true))) (parts z)) =
+        fold-roll-Stmt Bool (λ y. list_all (list_all (λ ok. ok)) (parts y)) z ∙ ap (list_all (list_all (λ ok. ok))) (parts_map (throughout (λ y. true)) z) in
+        subst IsTrue (sym rolled) (subst (λ q. IsTrue (list_all (list_all (λ ok. ok)) (map (map (throughout (λ y. true))) q))) (sym (parts_map (λ e. e.0) y)) (lists (parts y)))
+
+all_true : (body : List Stmt) → IsTrue (list_all (throughout (λ y. true)) body)
+all_true [] = refl
+all_true (st ∷ body) = and_of (throughout (λ y. true) st) (list_all (throughout (λ y. true)) body) (throughout_true st) (all_true body)
+
+body_keeps : (near : Bool) (forgets : Forgets) (f : FlatFunc) → IsTrue (list_all (throughout (keeps (touches near forgets f))) f.body)
+body_keeps near forgets f = by (touches near forgets f 1) refl
+  where
+    -- what touches x1 aside, the test is whether x1 is kept
+    test : Bool → Type 0
+    test b = IsTrue (list_all (throughout (λ y. b || keeps_link y)) f.body)
+
+    none : (a l m k : Bool) → (a || (true && (not l || (not m || k)))) ≡ false → IsTrue m
+    none false true true false e = refl
+    none true l m k e = absurd (cc)
+    none false false m k e = absurd (cc)
+    none false true false k e = absurd (cc)
+    none false true true true e = absurd (cc)
+
+    by : (b : Bool) → touches near forgets f 1 ≡ b → IsTrue (list_all (throughout (keeps (touches near forgets f))) f.body)
+    by true e = subst test (sym e) (all_true f.body)
+    by false e = subst test (sym e) (none (changes forgets f 1) near (list_all (throughout keeps_link) f.body) (nat_lt 2047 (nest f)) e)
 
 called_function : (fs : List FlatFunc) (n g : ℕ) (f : FlatFunc) → slice_get fs n ≡ Some f → is_in (callees f) g ≡ true → is_called fs g ≡ true
 called_function fs n g f there is = some_of (λ h. list_any (λ k. k == g) (callees h)) fs n f there is
@@ -381,8 +436,8 @@ function_laid fs targets forgets need code is n f there =
       few_args = few_names f.names f.args head2.1;
       results = register3.1;
       few_results = few_names f.names f.results head.1;
-      body = body_fine fs f.names (changes forgets f) (may_call f need (callee_need fs need n)) f.body well2.1 register2.1
-          (λ x l. or_left (is_in (written_names f) x) (list_any (λ g. forgets g x) (callees f)) l)
+      body = body_fine fs f.names (touches targets.near forgets f) (may_call f need (callee_need fs need n)) f.body well2.1 register2.1 (body_keeps targets.near forgets f)
+          (λ x l. or_left (changes forgets f x) ((x == 1) && links targets.near f) (or_left (is_in (written_names f) x) (list_any (λ g. forgets g x) (callees f)) l))
           (λ g l. and_of (is_in (callees f) g) (nat_le (need g) (callee_need fs need n)) l (at_most (need g) (callee_need fs need n) (subst (λ q. need g ≤ q) (sym limit) (less_than_largest need (callees f) g l))));
       bulk = omega arith;
       needs = is.needs n f there;
@@ -437,7 +492,7 @@ function_shown t steps fs targets forgets need code is n f place there at_is les
     pays : 16 + (flat_bulk fs - 16) ≤ flat_bulk fs
     pays = let more = within_sum function_bulk fs n f there in omega arith
 
-    needs : saved_bytes forgets n f + nest f + callee_need fs need n ≤ need n
+    needs : framed_bytes targets.near forgets n f + nest f + callee_need fs need n ≤ need n
     needs = is.needs n f there
 
     here : Placed code place (function_items targets forgets fs n f)

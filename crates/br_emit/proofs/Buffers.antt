@@ -1,5 +1,5 @@
 -- Buffers, in code: the choice that a run takes is the place and the bytes that the machine has there.
-use Rattle.std.proofs.Common.{◌≡◌, ◌⊎◌, inl, inr, ℕ, zero, suc, ◌+◌, ◌-◌, ◌%◌, ◌^◌, ◌<◌, ◌≤◌, ◌==◌, nat_lt, nat_le, if◌then◌else◌, List, [], ◌∷◌, ◌++◌, length, Option, Some, None, Bool, true, false, IsTrue, refl, sym, ap, subst, ◌∙◌, arith, pos, length-append}
+use Rattle.std.proofs.Common.{◌≢◌, ◌≡◌, ◌⊎◌, inl, inr, ℕ, zero, suc, ◌+◌, ◌-◌, ◌%◌, ◌^◌, ◌<◌, ◌≤◌, ◌==◌, nat_lt, nat_le, if◌then◌else◌, List, [], ◌∷◌, ◌++◌, length, Option, Some, None, Bool, true, false, IsTrue, refl, sym, ap, subst, ◌∙◌, arith, pos, length-append}
 use Rattle.std.specs.Prelude.{slice_index}
 use Rattle.std.specs.List.{AllByRecursion}
 use Rattle.std.specs.FinMap as map
@@ -49,7 +49,7 @@ place_sets g j registers ram answers trace x distance good placed name pointer i
         let first = constant_sets g j registers ram answers trace x distance good (placed-front g.code j (constant_items x distance) (Does (Reg Add x x 2) ∷ []) p) (nonzero x name) in
         let last = placed-back g.code j (constant_items x distance) (Does (Reg Add x x 2) ∷ []) p in
         let sets = first.sets in
-        let pointer' : reads sets.registers' 2 ≡ g.sp = sets.others 2 (omega arith) (omega arith) ∙ pointer in
+        let pointer' : reads sets.registers' 2 ≡ g.sp = sets.others 2 (omega arith) ∙ pointer in
         let second = reg_sets g (j + k) sets.registers' ram answers trace Add x x 2 distance g.sp sets.good last.0 last.1 (nonzero x name) sets.value pointer' in
         let few = first.few in
         let value : (distance + g.sp) % 2 ^ 32 ≡ g.sp + distance = omega arith in
@@ -195,9 +195,9 @@ buffer_simulates g x n body is nest bulk named touches fours sim free j s regist
     let s1 : State = record s { locals = with_local x a s.locals; memory = with_bytes s.memory a bytes } in
     let ready1 = ready_runs g registers ram s.answers sets.registers' ram s.answers s.trace s.trace j (j + k) within.steps ready sets.runs in
     let stands1 : Stands a g.sp s1 sets.registers' ram = record {
-      values = values_set s.locals registers sets.registers' x a stands.values sets.value sets.others;
+      values = values_set s.locals registers sets.registers' x a stands.values sets.value (λ y ne one. sets.others y ne);
       held = buffer_held b a n s.memory ram stands.held low end_is (omega arith);
-      pointer = sets.others 2 (omega arith) (omega arith) ∙ stands.pointer;
+      pointer = sets.others 2 (omega arith) ∙ stands.pointer;
     } in
     let fine : is_good n s.memory c ≡ true =
     good_choice n a s.memory bytes (omega arith) size low (omega arith)
@@ -207,7 +207,7 @@ buffer_simulates g x n body is nest bulk named touches fours sim free j s regist
     let run = sim (free - n) (j + k) s1 sets.registers' ram (omega arith) (omega arith) (omega arith) deep p2 ready1 stands1 in
     let size2 : j + k + length (is (free - n)) ≡ j + length (place ++ is (free - n)) = omega (arith, length-append place (is (free - n))) in
     subst (λ q. Shown g (with_buffer (with_local x) n body) s (at g.code j registers ram s.answers s.trace) ram b q (3 + bulk)) size2
-    (after_place a low end_is chosen_bytes fine sets.registers' within.steps (j + k) (j + k + length (is (free - n))) within.few (λ y low out. sets.others y (λ same. absurd (true_false (sym touches ∙ ap g.touched (sym same) ∙ out))) (omega arith)) sets.runs run)
+    (after_place a low end_is chosen_bytes fine sets.registers' within.steps (j + k) (j + k + length (is (free - n))) within.few (λ y low out. sets.others y (λ same. absurd (true_false (sym touches ∙ ap g.touched (sym same) ∙ out)))) sets.runs run)
   where
     kept : (a : ℕ) → 0x80200000 ≤ a → a + n ≡ g.sp + free → (m' : Memory) (ram' bs : List ℕ) → length bs ≡ n → Kept a (with_bytes s.memory a bs) m' ram ram' → Kept (g.sp + free) s.memory m' ram ram'
     kept a low end m' ram' bs size k = record {
@@ -225,7 +225,7 @@ buffer_simulates g x n body is nest bulk named touches fours sim free j s regist
 
     after_place : (a : ℕ) → 0x80200000 ≤ a → a + n ≡ g.sp + free → AreBytes (bytes_from ram (a - 0x80100000) n)
         → is_good n s.memory (record { addr = a; bytes = bytes_from ram (a - 0x80100000) n }) ≡ true
-        → (registers' : List ℕ) (steps k end : ℕ) → steps ≤ 3 → ((y : ℕ) → 3 ≤ y → g.touched y ≡ false → reads registers' y ≡ reads registers y) → Runs g.low steps (at g.code j registers ram s.answers s.trace) (at g.code k registers' ram s.answers s.trace)
+        → (registers' : List ℕ) (steps k end : ℕ) → steps ≤ 3 → ((y : ℕ) → y ≢ 2 → g.touched y ≡ false → reads registers' y ≡ reads registers y) → Runs g.low steps (at g.code j registers ram s.answers s.trace) (at g.code k registers' ram s.answers s.trace)
         → Shown g body (record s { locals = with_local x a s.locals; memory = with_bytes s.memory a (bytes_from ram (a - 0x80100000) n) }) (at g.code k registers' ram s.answers s.trace) ram a end bulk
         → Shown g (with_buffer (with_local x) n body) s (at g.code j registers ram s.answers s.trace) ram (g.sp + free) end (3 + bulk)
     after_place a low top chosen fine registers' steps k end few same runs (On w) =

@@ -1,6 +1,7 @@
 -- A call, in code, given the calls in the function that is called.
-use Rattle.std.proofs.Common.{◌≡◌, ◌≢◌, ◌⊎◌, inl, inr, ℕ, zero, suc, ◌+◌, ◌-◌, ◌*◌, ◌%◌, ◌^◌, ◌<◌, ◌≤◌, ◌&&◌, not, nat_le, if◌then◌else◌, List, [], ◌∷◌, ◌++◌, map, length, sum, Option, Some, None, Bool, true, false, IsTrue, negsuc, refl, sym, ap, subst, ◌∙◌, arith, append_assoc}
+use Rattle.std.proofs.Common.{◌≡◌, ◌≢◌, ◌⊎◌, inl, inr, ℕ, zero, suc, ◌+◌, ◌-◌, ◌*◌, ◌%◌, ◌^◌, ◌<◌, ◌≤◌, ◌&&◌, ◌||◌, ◌==◌, not, nat_le, nat_lt, if◌then◌else◌, List, [], ◌∷◌, ◌++◌, map, length, sum, Option, Some, None, Bool, true, false, IsTrue, negsuc, refl, sym, ap, subst, ◌∙◌, arith, append_assoc}
 use Rattle.std.specs.Prelude.{slice_get, slice_index}
+use Rattle.std.specs.List.{AllByRecursion, list_all}
 use Rattle.std.specs.FinMap as map
 use Rattle.std.proofs.lemmas.Bool.Decides.{nat_tests}
 use Rattle.br_bytes.specs.declared.run.Choice.{Choice}
@@ -9,6 +10,7 @@ use Rattle.br_bytes.specs.Runs.{Undefined, Goes, Ends, with_defined, with_fuel, 
 use Rattle.br_flatimp.specs.declared.program.Stmt.TheOpen.{Stmt-F}
 use Rattle.br_flatimp.specs.declared.program.FlatFunc.{FlatFunc}
 use Rattle.br_flatimp.specs.Values.{Locals, no_locals, with_locals, without_names, words_of}
+use Rattle.br_flatimp.specs.Parts.{throughout}
 use Rattle.br_flatimp.specs.Liveness.{is_in}
 use Rattle.br_flatimp.specs.WellFormed.{is_passing}
 use Rattle.br_flatimp.specs.Sizes.{statement_bulk, nest}
@@ -16,15 +18,15 @@ use Rattle.br_flatimp.specs.Runs as flat
 use Rattle.br_flatimp.specs.Runs.{State, Run, Forgets, Callee, statement_step, enter, function_of}
 use Rattle.br_rv32im.specs.declared.instruction.Ins.TheVariants.{Imm}
 use Rattle.br_rv32im.specs.declared.instruction.ImmOp.TheVariants.{Addi}
-use Rattle.br_emit.specs.Code.{Does, Targets, call_items, all_items, registers, changes, is_saved, saves, saved_bytes, save_items, restore_items, move_items, exit_items, callable_items}
+use Rattle.br_emit.specs.Code.{Does, Targets, call_items, all_items, registers, changes, is_saved, saves, keeps_link, links, touches, framed, framed_bytes, save_items, restore_items, move_items, exit_items, callable_items}
 use Rattle.br_emit.proofs.Stepping.{at, reads, within_code}
 use Rattle.br_emit.proofs.Held.{Held}
 use Rattle.br_emit.proofs.Pieces.{Ground, Placed, placed-front, placed-back, runs-append, Ready, Stands, Apart, Kept, Paced, Shown, On, Out, Wrong, given}
 use Rattle.br_emit.proofs.Setting.{ready_runs, good_of}
-use Rattle.br_emit.proofs.Frames.{word_at, word_same, Stored, NoneOf}
+use Rattle.br_emit.proofs.Frames.{word_at, word_same, Stored, IsKept, Rises, NoneOf}
 use Rattle.br_emit.proofs.Passing.{Standing, words_stand, of_length, in_order, where_from, filter_rises, none_left, kept_word}
 use Rattle.br_emit.proofs.Statements.{all_simulate}
-use Rattle.br_emit.proofs.Calls.{World, ground, CallsAt, Leaps, leaps, Opened, opens, closes}
+use Rattle.br_emit.proofs.Calls.{World, ground, CallsAt, Leaps, leaps, Opened, opens, Returns, FromFrame, FromLink, closes}
 
 -- ---- memory around a call
 
@@ -120,6 +122,27 @@ call_short : (near : Bool) (target : ℕ) → length (call_items near target) �
 call_short true target = omega arith
 call_short false target = omega arith
 
+callable_within : (code : List ℕ) (targets : Targets) (forgets : Forgets) (n : ℕ) (f : FlatFunc) (place : ℕ) → Placed code place (callable_items targets forgets n f) → place < length code
+callable_within code targets forgets n f place placed =
+    let rs = framed targets.near forgets n f in
+    let bytes = framed_bytes targets.near forgets n f in
+    let tail = move_items bytes ++ exit_items in
+    let a = move_items ((2 ^ 32 - bytes) % 2 ^ 32) in
+    let b = save_items 0 rs in
+    let c = move_items ((2 ^ 32 - nest f) % 2 ^ 32) in
+    let d = all_items targets f.body (nest f) in
+    let e = move_items (nest f) in
+    let r = restore_items 0 rs in
+    let q1 = placed-back code place a (b ++ (c ++ (d ++ (e ++ (r ++ tail))))) placed in
+    let q2 = placed-back code (place + length a) b (c ++ (d ++ (e ++ (r ++ tail)))) q1 in
+    let q3 = placed-back code (place + length a + length b) c (d ++ (e ++ (r ++ tail))) q2 in
+    let q4 = placed-back code (place + length a + length b + length c) d (e ++ (r ++ tail)) q3 in
+    let q5 = placed-back code (place + length a + length b + length c + length d) e (r ++ tail) q4 in
+    let q6 = placed-back code (place + length a + length b + length c + length d + length e) r tail q5 in
+    let q7 = placed-back code (place + length a + length b + length c + length d + length e + length r) (move_items bytes) exit_items q6 in
+    let last = within_code code (place + length a + length b + length c + length d + length e + length r + length (move_items bytes)) _ q7.0 in
+    omega arith
+
 -- what is fixed of a call from the function n to the function h
 pub record Site (w : World) (n : ℕ) (f : FlatFunc) (sp : ℕ) (xs ys : List ℕ) (h : ℕ) (c : FlatFunc) : Type 0 where
   pub under : w.low ≤ sp
@@ -132,10 +155,11 @@ pub record Site (w : World) (n : ℕ) (f : FlatFunc) (sp : ℕ) (xs ys : List �
   pub passing_ys : IsTrue (is_passing ys)
   pub same_xs : xs ≡ c.results
   pub same_ys : ys ≡ c.args
-  pub touched : (y : ℕ) → changes w.forgets f y ≡ false → (is_in xs y ≡ false) × (w.forgets h y ≡ false)
+  pub linking : touches w.targets.near w.forgets f 1 ≡ true
+  pub touched : (y : ℕ) → touches w.targets.near w.forgets f y ≡ false → (is_in xs y ≡ false) × (w.forgets h y ≡ false)
 
 -- the stack pointer in the function that is called
-inner_under : (w : World) (n : ℕ) (f : FlatFunc) (sp : ℕ) (xs ys : List ℕ) (h : ℕ) (c : FlatFunc) → Site w n f sp xs ys h c → w.low ≤ sp - saved_bytes w.forgets h c - nest c
+inner_under : (w : World) (n : ℕ) (f : FlatFunc) (sp : ℕ) (xs ys : List ℕ) (h : ℕ) (c : FlatFunc) → Site w n f sp xs ys h c → w.low ≤ sp - framed_bytes w.targets.near w.forgets h c - nest c
 inner_under w n f sp xs ys h c site =
     let fn = w.functions h c site.callee in
     let needs = fn.needs in
@@ -146,7 +170,7 @@ inner_under w n f sp xs ys h c site =
     let bottom = w.bottom in
     omega arith
 
-inner_top : (w : World) (n : ℕ) (f : FlatFunc) (sp : ℕ) (xs ys : List ℕ) (h : ℕ) (c : FlatFunc) → Site w n f sp xs ys h c → sp - saved_bytes w.forgets h c - nest c ≤ 0x80300000
+inner_top : (w : World) (n : ℕ) (f : FlatFunc) (sp : ℕ) (xs ys : List ℕ) (h : ℕ) (c : FlatFunc) → Site w n f sp xs ys h c → sp - framed_bytes w.targets.near w.forgets h c - nest c ≤ 0x80300000
 inner_top w n f sp xs ys h c site =
     let fn = w.functions h c site.callee in
     let needs = fn.needs in
@@ -157,7 +181,7 @@ inner_top w n f sp xs ys h c site =
     let bottom = w.bottom in
     omega arith
 
-inner_four : (w : World) (n : ℕ) (f : FlatFunc) (sp : ℕ) (xs ys : List ℕ) (h : ℕ) (c : FlatFunc) → Site w n f sp xs ys h c → (sp - saved_bytes w.forgets h c - nest c) % 4 ≡ 0
+inner_four : (w : World) (n : ℕ) (f : FlatFunc) (sp : ℕ) (xs ys : List ℕ) (h : ℕ) (c : FlatFunc) → Site w n f sp xs ys h c → (sp - framed_bytes w.targets.near w.forgets h c - nest c) % 4 ≡ 0
 inner_four w n f sp xs ys h c site =
     let fn = w.functions h c site.callee in
     let needs = fn.needs in
@@ -168,7 +192,7 @@ inner_four w n f sp xs ys h c site =
     let bottom = w.bottom in
     omega arith
 
-inner_room : (w : World) (n : ℕ) (f : FlatFunc) (sp : ℕ) (xs ys : List ℕ) (h : ℕ) (c : FlatFunc) → Site w n f sp xs ys h c → w.low + w.limit h ≤ sp - saved_bytes w.forgets h c - nest c
+inner_room : (w : World) (n : ℕ) (f : FlatFunc) (sp : ℕ) (xs ys : List ℕ) (h : ℕ) (c : FlatFunc) → Site w n f sp xs ys h c → w.low + w.limit h ≤ sp - framed_bytes w.targets.near w.forgets h c - nest c
 inner_room w n f sp xs ys h c site =
     let fn = w.functions h c site.callee in
     let needs = fn.needs in
@@ -181,32 +205,72 @@ inner_room w n f sp xs ys h c site =
 
 -- what the function that is called rests on
 abbrev inner : (w : World) (n : ℕ) (f : FlatFunc) (sp : ℕ) (xs ys : List ℕ) (h : ℕ) (c : FlatFunc) (d : ℕ) → Site w n f sp xs ys h c → Ground
-inner w n f sp xs ys h c d site = ground w h c d (sp - saved_bytes w.forgets h c - nest c) (inner_under w n f sp xs ys h c site) (inner_top w n f sp xs ys h c site) (inner_four w n f sp xs ys h c site)
+inner w n f sp xs ys h c d site = ground w h c d (sp - framed_bytes w.targets.near w.forgets h c - nest c) (inner_under w n f sp xs ys h c site) (inner_top w n f sp xs ys h c site) (inner_four w n f sp xs ys h c site)
+
+-- the registers in a frame
+record Frame (near : Bool) (forgets : Forgets) (n : ℕ) (f : FlatFunc) : Type 0 where
+  rises : Rises (framed near forgets n f)
+  kept : AllByRecursion IsKept (framed near forgets n f)
+  few : length (framed near forgets n f) ≤ 30
+
+frame : (near : Bool) (forgets : Forgets) (n : ℕ) (f : FlatFunc) → Frame near forgets n f
+frame near forgets n f =
+    let saved = filter_rises (is_saved forgets n f) 3 29 in
+    let short = saved.2 in
+    record {
+      rises = rising (touches near forgets f 1) (saves forgets n f) saved.0 saved.1;
+      kept = keeping (touches near forgets f 1) (saves forgets n f) saved.1;
+      few = few (touches near forgets f 1) (saves forgets n f) short;
+    }
+  where
+    above : (rs : List ℕ) → AllByRecursion (λ q. 3 ≤ q) rs → AllByRecursion (λ q. 1 < q) rs
+    above [] h = tt
+    above (r ∷ rs) h = (let l = h.0 in omega arith, above rs h.1)
+
+    kept_all : (rs : List ℕ) → AllByRecursion (λ q. 3 ≤ q) rs → AllByRecursion IsKept rs
+    kept_all [] h = tt
+    kept_all (r ∷ rs) h = (let l = h.0 in (omega arith, omega arith), kept_all rs h.1)
+
+    rising : (t : Bool) (rs : List ℕ) → Rises rs → AllByRecursion (λ q. 3 ≤ q) rs → Rises (if t then 1 ∷ rs else rs)
+    rising true rs h k = (above rs k, h)
+    rising false rs h k = h
+
+    keeping : (t : Bool) (rs : List ℕ) → AllByRecursion (λ q. 3 ≤ q) rs → AllByRecursion IsKept (if t then 1 ∷ rs else rs)
+    keeping true rs k = ((omega arith, omega arith), kept_all rs k)
+    keeping false rs k = kept_all rs k
+
+    few : (t : Bool) (rs : List ℕ) → length rs ≤ 29 → length (if t then 1 ∷ rs else rs) ≤ 30
+    few true rs h = omega arith
+    few false rs h = omega arith
 
 -- where the parts of a function stand that is called
 record Parts (code : List ℕ) (targets : Targets) (forgets : Forgets) (h place : ℕ) (c : FlatFunc) : Type 0 where
   start : ℕ
-  start_is : start ≡ place + 1 + length (save_items 0 (1 ∷ saves forgets h c)) + length (move_items ((2 ^ 32 - nest c) % 2 ^ 32))
-  before : Placed code place (Does (Imm Addi 2 2 (negsuc (saved_bytes forgets h c - 1))) ∷ (save_items 0 (1 ∷ saves forgets h c) ++ move_items ((2 ^ 32 - nest c) % 2 ^ 32)))
+  start_is : start ≡ place + length (move_items ((2 ^ 32 - framed_bytes targets.near forgets h c) % 2 ^ 32)) + length (save_items 0 (framed targets.near forgets h c)) + length (move_items ((2 ^ 32 - nest c) % 2 ^ 32))
+  before : Placed code place (move_items ((2 ^ 32 - framed_bytes targets.near forgets h c) % 2 ^ 32) ++ (save_items 0 (framed targets.near forgets h c) ++ move_items ((2 ^ 32 - nest c) % 2 ^ 32)))
   body : Placed code start (all_items targets c.body (nest c))
-  after : Placed code (start + length (all_items targets c.body (nest c))) (move_items (nest c) ++ (restore_items 1 (saves forgets h c) ++ exit_items (saved_bytes forgets h c)))
+  after : Placed code (start + length (all_items targets c.body (nest c))) (move_items (nest c) ++ (restore_items 0 (framed targets.near forgets h c) ++ (move_items (framed_bytes targets.near forgets h c) ++ exit_items)))
 
 parts : (code : List ℕ) (targets : Targets) (forgets : Forgets) (h place : ℕ) (c : FlatFunc) → Placed code place (callable_items targets forgets h c) → Parts code targets forgets h place c
 parts code targets forgets h place c placed =
-    let rs = saves forgets h c in
-    let save = save_items 0 (1 ∷ rs) in
+    let rs = framed targets.near forgets h c in
+    let bytes = framed_bytes targets.near forgets h c in
+    let first = move_items ((2 ^ 32 - bytes) % 2 ^ 32) in
+    let save = save_items 0 rs in
     let move = move_items ((2 ^ 32 - nest c) % 2 ^ 32) in
     let body = all_items targets c.body (nest c) in
-    let tail = move_items (nest c) ++ (restore_items 1 rs ++ exit_items (saved_bytes forgets h c)) in
-    let q1 = placed-back code (place + 1) save (move ++ (body ++ tail)) placed.2 in
-    let q2 = placed-back code (place + 1 + length save) move (body ++ tail) q1 in
-    let whole : (save ++ move) ++ (body ++ tail) ≡ save ++ (move ++ (body ++ tail)) = append_assoc save move (body ++ tail) in
+    let tail = move_items (nest c) ++ (restore_items 0 rs ++ (move_items bytes ++ exit_items)) in
+    let q0 = placed-back code place first (save ++ (move ++ (body ++ tail))) placed in
+    let q1 = placed-back code (place + length first) save (move ++ (body ++ tail)) q0 in
+    let q2 = placed-back code (place + length first + length save) move (body ++ tail) q1 in
+    let whole : (first ++ (save ++ move)) ++ (body ++ tail) ≡ first ++ (save ++ (move ++ (body ++ tail))) =
+    append_assoc first (save ++ move) (body ++ tail) ∙ ap (λ q. first ++ q) (append_assoc save move (body ++ tail)) in
     record {
-      start = place + 1 + length save + length move;
+      start = place + length first + length save + length move;
       start_is = refl;
-      before = (placed.0, placed.1, placed-front code (place + 1) (save ++ move) (body ++ tail) (subst (Placed code (place + 1)) (sym whole) placed.2));
-      body = placed-front code (place + 1 + length save + length move) body tail q2;
-      after = placed-back code (place + 1 + length save + length move) body tail q2;
+      before = placed-front code place (first ++ (save ++ move)) (body ++ tail) (subst (Placed code place) (sym whole) placed);
+      body = placed-front code (place + length first + length save + length move) body tail q2;
+      after = placed-back code (place + length first + length save + length move) body tail q2;
     }
 
 -- the function's body, from the call on
@@ -214,9 +278,9 @@ record Inside (w : World) (n : ℕ) (f : FlatFunc) (sp : ℕ) (xs ys : List ℕ)
   place : ℕ
   parts_of : Parts w.code w.targets w.forgets h place c
   leap : Leaps (ground w n f (suc d) sp site.under site.top site.four) j (j + length (call_items w.targets.near (w.targets.at h))) place registers ram s.answers s.trace
-  opened : Opened (ground w n f (suc d) sp site.under site.top site.four) place parts_of.start sp (saved_bytes w.forgets h c) (nest c) (saves w.forgets h c) leap.registers' ram s.answers s.trace
+  opened : Opened (ground w n f (suc d) sp site.under site.top site.four) place parts_of.start sp (framed_bytes w.targets.near w.forgets h c) (nest c) (framed w.targets.near w.forgets h c) leap.registers' ram s.answers s.trace
   run : Shown (inner w n f sp xs ys h c d site) (in_turn (map (flat.run w.forgets (function_of w.forgets w.fs d)) c.body)) (record s { locals = with_locals c.args vs no_locals; fuel = k })
-      (at w.code parts_of.start opened.registers' opened.ram' s.answers s.trace) opened.ram' (sp - saved_bytes w.forgets h c) (parts_of.start + length (all_items w.targets c.body (nest c))) (sum (map statement_bulk c.body))
+      (at w.code parts_of.start opened.registers' opened.ram' s.answers s.trace) opened.ram' (sp - framed_bytes w.targets.near w.forgets h c) (parts_of.start + length (all_items w.targets c.body (nest c))) (sum (map statement_bulk c.body))
 
 enters : (w : World) (n : ℕ) (f : FlatFunc) (sp : ℕ) (xs ys : List ℕ) (h : ℕ) (c : FlatFunc) (d : ℕ) (site : Site w n f sp xs ys h c) → CallsAt w d
     → (free j k : ℕ) (s : State) (registers ram vs : List ℕ)
@@ -232,18 +296,19 @@ enters w n f sp xs ys h c d site again free j k s registers ram vs inside deep w
     let good = good_of w.code registers ram s.answers j ready in
     let few = good.few in
     let j_in = call_within w.code w.targets.near (w.targets.at h) j placed in
-    let place_in = within_code w.code place _ where_to.2.0 in
-    let leap = leaps g w.targets.near j place (w.targets.at h) registers ram s.answers s.trace good placed where_to.1 (omega (arith, where_to.1)) (omega arith) w.reach j_in place_in in
+    let place_in = callable_within w.code w.targets w.forgets h c place where_to.2 in
+    let leap = leaps g w.targets.near j place (w.targets.at h) registers ram s.answers s.trace site.linking good placed where_to.1 (omega (arith, where_to.1)) (omega arith) w.reach j_in place_in in
     let ready1 = ready_runs g registers ram s.answers leap.registers' ram s.answers s.trace s.trace j place leap.steps ready leap.runs in
-    let saved = filter_rises (is_saved w.forgets h c) 3 29 in
+    let regs = frame w.targets.near w.forgets h c in
+    let few_regs = regs.few in
     let pointer1 : reads leap.registers' 2 ≡ sp = leap.others 2 (omega arith) ∙ stands.pointer in
     let needs = fn.needs in
     let room = site.room in
     let bottom = w.bottom in
-    let opened = opens g place sp (nest c) (saves w.forgets h c) leap.registers' ram s.answers s.trace ready1 saved.1 saved.2 ps.before pointer1 site.top (omega arith) in
-    let opened' = subst (λ q. Opened g place q sp (saved_bytes w.forgets h c) (nest c) (saves w.forgets h c) leap.registers' ram s.answers s.trace) (sym ps.start_is) opened in
+    let opened = opens g place sp (nest c) (framed w.targets.near w.forgets h c) leap.registers' ram s.answers s.trace ready1 regs.kept regs.few ps.before pointer1 site.top (omega arith) in
+    let opened' = subst (λ q. Opened g place q sp (framed_bytes w.targets.near w.forgets h c) (nest c) (framed w.targets.near w.forgets h c) leap.registers' ram s.answers s.trace) (sym ps.start_is) opened in
     let ready2 = ready_runs g leap.registers' ram s.answers opened'.registers' opened'.ram' s.answers s.trace s.trace place ps.start opened'.steps ready1 opened'.runs in
-    let bytes = saved_bytes w.forgets h c in
+    let bytes = framed_bytes w.targets.near w.forgets h c in
     let base : sp - bytes - nest c + nest c ≡ sp - bytes = omega arith in
     let standing : Standing 10 vs opened'.registers' =
     words_stand 10 ys vs s.locals opened'.registers' site.passing_ys words
@@ -256,7 +321,7 @@ enters w n f sp xs ys h c d site again free j k s registers ram vs inside deep w
       pointer = opened'.pointer;
     } in
     let sim = all_simulate (inner w n f sp xs ys h c d site) w.targets w.forgets (function_of w.forgets w.fs d) w.fs
-    (again h c (sp - saved_bytes w.forgets h c - nest c) (inner_under w n f sp xs ys h c site) (inner_top w n f sp xs ys h c site) (inner_four w n f sp xs ys h c site) (inner_room w n f sp xs ys h c site) site.callee)
+    (again h c (sp - framed_bytes w.targets.near w.forgets h c - nest c) (inner_under w n f sp xs ys h c site) (inner_top w n f sp xs ys h c site) (inner_four w n f sp xs ys h c site) (inner_room w n f sp xs ys h c site) site.callee)
     c.body fn.body (let bulk = fn.bulk in omega arith) in
     let run = sim (nest c) ps.start u0 opened'.registers' opened'.ram' (omega arith) fn.fours (omega arith) deep ps.body ready2 stands2 in
     record {
@@ -268,7 +333,7 @@ enters w n f sp xs ys h c d site again free j k s registers ram vs inside deep w
           (at w.code ps.start opened'.registers' opened'.ram' s.answers s.trace) opened'.ram' b (ps.start + length (all_items w.targets c.body (nest c))) (sum (map statement_bulk c.body))) base run;
     }
   where
-    over : (q : ℕ) → (q < sp - saved_bytes w.forgets h c) ⊎ (sp + free ≤ q) → (q < sp - saved_bytes w.forgets h c) ⊎ (sp ≤ q)
+    over : (q : ℕ) → (q < sp - framed_bytes w.targets.near w.forgets h c) ⊎ (sp + free ≤ q) → (q < sp - framed_bytes w.targets.near w.forgets h c) ⊎ (sp ≤ q)
     over q (inl l) = inl l
     over q (inr l) = inr (omega arith)
 
@@ -286,6 +351,52 @@ enters w n f sp xs ys h c d site again free j k s registers ram vs inside deep w
         clash e = absurd (cc)
 
 -- ---- after the body
+
+-- a register that is no name of a function is not changed by it
+pub changes_of : (near : Bool) (forgets : Forgets) (f : FlatFunc) (y : ℕ) → touches near forgets f y ≡ false → changes forgets f y ≡ false
+changes_of near forgets f y out = first (changes forgets f y) ((y == 1) && links near f) out
+  where
+    first : (a b : Bool) → (a || b) ≡ false → a ≡ false
+    first false b e = refl
+    first true b e = absurd (cc)
+
+touches_far : (near : Bool) (forgets : Forgets) (f : FlatFunc) (y : ℕ) → 3 ≤ y → changes forgets f y ≡ false → touches near forgets f y ≡ false
+touches_far near forgets f y low out =
+    let other : (y == 1) ≡ false = grind (arith, nat_tests) in
+    ap (λ b. b || ((y == 1) && links near f)) out ∙ ap (λ b. b && links near f) other
+
+none_framed : (near : Bool) (forgets : Forgets) (n : ℕ) (f : FlatFunc) (y : ℕ) → NoneOf y (saves forgets n f) → y ≢ 1 → NoneOf y (framed near forgets n f)
+none_framed near forgets n f y none one = by (touches near forgets f 1)
+  where
+    by : (t : Bool) → NoneOf y (if t then 1 ∷ saves forgets n f else saves forgets n f)
+    by true = (one, none)
+    by false = none
+
+-- the words of what a function saves, after that of x1
+saves_stored : (t : Bool) (ss registers ram : List ℕ) (a : ℕ) → Stored registers ram a (if t then 1 ∷ ss else ss) → Stored registers ram (if t then a + 4 else a) ss
+saves_stored true ss registers ram a h = h.1
+saves_stored false ss registers ram a h = h
+
+-- where the return address is after the body
+returns_by : (near : Bool) (forgets : Forgets) (n : ℕ) (f : FlatFunc) (a to : ℕ) (registers1 registers2 registers3 ram : List ℕ)
+    → reads registers1 1 ≡ 0x80300000 + 4 * to → (nest f ≤ 2047 → reads registers2 1 ≡ reads registers1 1) → (touches near forgets f 1 ≡ false → reads registers3 1 ≡ reads registers2 1)
+    → (t : Bool) → touches near forgets f 1 ≡ t → Stored registers1 ram a (if t then 1 ∷ saves forgets n f else saves forgets n f)
+    → Returns registers3 ram a (nest f) to (if t then 1 ∷ saves forgets n f else saves forgets n f)
+returns_by near forgets n f a to registers1 registers2 registers3 ram back opened untouched true e stored = FromFrame (saves forgets n f) refl (stored.0 ∙ back)
+returns_by near forgets n f a to registers1 registers2 registers3 ram back opened untouched false e stored =
+    let saved = filter_rises (is_saved forgets n f) 3 29 in
+    let small = nest_short (changes forgets f 1) (not near) (not (list_all (throughout keeps_link) f.body)) e in
+    FromLink (none (saves forgets n f) saved.1) small (untouched e ∙ opened small ∙ back)
+  where
+    none : (rs : List ℕ) → AllByRecursion (λ q. 3 ≤ q) rs → NoneOf 1 rs
+    none [] h = tt
+    none (r ∷ rs) h = (let l = h.0 in omega arith, none rs h.1)
+
+    nest_short : (a b c : Bool) → (a || (true && (b || (c || nat_lt 2047 (nest f))))) ≡ false → nest f ≤ 2047
+    nest_short false false false e = grind (arith, nat_tests)
+    nest_short true b c e = absurd (cc)
+    nest_short false true c e = absurd (cc)
+    nest_short false false true e = absurd (cc)
 
 -- the registers that a call leaves as they were
 stays_through : (w : World) (n : ℕ) (f : FlatFunc) (sp : ℕ) (xs ys : List ℕ) (h : ℕ) (c : FlatFunc) (place to : ℕ) (registers registers1 registers2 registers3 registers4 ram ram2 ram3 answers : List ℕ)
@@ -343,7 +454,7 @@ call_shown w n f sp xs ys h c d site again free j k s registers ram vs inside de
     body : State → Run
     body = in_turn (map (flat.run w.forgets (function_of w.forgets w.fs d)) c.body)
 
-    same_below : (a : ℕ) (ram2 : List ℕ) → a ≡ sp - saved_bytes w.forgets h c → ((q : ℕ) → 0x80100000 ≤ q → (q < a) ⊎ (sp ≤ q) → slice_index ram2 (q - 0x80100000) ≡ slice_index ram (q - 0x80100000))
+    same_below : (a : ℕ) (ram2 : List ℕ) → a ≡ sp - framed_bytes w.targets.near w.forgets h c → ((q : ℕ) → 0x80100000 ≤ q → (q < a) ⊎ (sp ≤ q) → slice_index ram2 (q - 0x80100000) ≡ slice_index ram (q - 0x80100000))
         → (q : ℕ) → 0x80100000 ≤ q → (q < 0x80200000) ⊎ (sp + free ≤ q) → slice_index ram2 (q - 0x80100000) ≡ slice_index ram (q - 0x80100000)
     same_below a ram2 is same q from (inl l) =
         let fn = w.functions h c site.callee in
@@ -373,9 +484,9 @@ call_shown w n f sp xs ys h c d site again free j k s registers ram vs inside de
 
     by : (place : ℕ) (ps : Parts w.code w.targets w.forgets h place c)
         → (leap : Leaps (ground w n f (suc d) sp site.under site.top site.four) j (j + length (call_items w.targets.near (w.targets.at h))) place registers ram s.answers s.trace)
-        → (opened : Opened (ground w n f (suc d) sp site.under site.top site.four) place ps.start sp (saved_bytes w.forgets h c) (nest c) (saves w.forgets h c) leap.registers' ram s.answers s.trace)
+        → (opened : Opened (ground w n f (suc d) sp site.under site.top site.four) place ps.start sp (framed_bytes w.targets.near w.forgets h c) (nest c) (framed w.targets.near w.forgets h c) leap.registers' ram s.answers s.trace)
         → Shown (inner w n f sp xs ys h c d site) (in_turn (map (flat.run w.forgets (function_of w.forgets w.fs d)) c.body)) (record s { locals = with_locals c.args vs no_locals; fuel = k })
-        (at w.code ps.start opened.registers' opened.ram' s.answers s.trace) opened.ram' (sp - saved_bytes w.forgets h c) (ps.start + length (all_items w.targets c.body (nest c))) (sum (map statement_bulk c.body))
+        (at w.code ps.start opened.registers' opened.ram' s.answers s.trace) opened.ram' (sp - framed_bytes w.targets.near w.forgets h c) (ps.start + length (all_items w.targets c.body (nest c))) (sum (map statement_bulk c.body))
         → Shown (ground w n f (suc d) sp site.under site.top site.four) (statement_step w.forgets (function_of w.forgets w.fs (suc d)) (Stmt-F.Call xs h ys)) (record s { fuel = suc k })
         (at w.code j registers ram s.answers s.trace) ram (sp + free) (j + length (call_items w.targets.near (w.targets.at h))) 2
     by place ps leap opened (Wrong b) = Wrong (record {
@@ -388,10 +499,10 @@ call_shown w n f sp xs ys h c d site again free j k s registers ram vs inside de
     })
     by place ps leap opened (Out b) =
         let fn = w.functions h c site.callee in
-        let saved = filter_rises (is_saved w.forgets h c) 3 29 in
-        let short = saved.2 in
+        let regs = frame w.targets.near w.forgets h c in
+        let short = regs.few in
         let few = opened.few in
-        let some = opened.some in
+        let some = leap.some in
         let few_leap = leap.few in
         let needs = fn.needs in
         Out (record {
@@ -409,7 +520,7 @@ call_shown w n f sp xs ys h c d site again free j k s registers ram vs inside de
           runs = runs-append w.low (leap.steps + opened.steps) b.steps (at w.code j registers ram s.answers s.trace) (at w.code ps.start opened.registers' opened.ram' s.answers s.trace) (at w.code b.place b.registers b.ram' b.after.answers b.after.trace)
               (runs-append w.low leap.steps opened.steps (at w.code j registers ram s.answers s.trace) (at w.code place leap.registers' ram s.answers s.trace) (at w.code ps.start opened.registers' opened.ram' s.answers s.trace) leap.runs opened.runs) b.runs;
           bytes = b.bytes;
-          kept = kept_above (sp + free) (sp - saved_bytes w.forgets h c) s.memory b.after.memory ram opened.ram' b.ram' (omega arith) b.kept (same_below (sp - saved_bytes w.forgets h c) opened.ram' refl opened.bytes_stay);
+          kept = kept_above (sp + free) (sp - framed_bytes w.targets.near w.forgets h c) s.memory b.after.memory ram opened.ram' b.ram' (omega arith) b.kept (same_below (sp - framed_bytes w.targets.near w.forgets h c) opened.ram' refl opened.bytes_stay);
           paced = pace (record s { locals = with_locals c.args vs no_locals; fuel = k }) b.after 0 (leap.steps + opened.steps) b.steps 0 refl (omega arith) (omega arith) fn.bulk b.paced;
           shown = b.shown;
         })
@@ -430,12 +541,14 @@ call_shown w n f sp xs ys h c d site again free j k s registers ram vs inside de
         results (Some ws) e =
             let fn = w.functions h c site.callee in
             let g = ground w n f (suc d) sp site.under site.top site.four in
-            let rs = saves w.forgets h c in
-            let bytes = saved_bytes w.forgets h c in
+            let rs = framed w.targets.near w.forgets h c in
+            let bytes = framed_bytes w.targets.near w.forgets h c in
+            let link = touches w.targets.near w.forgets c 1 in
             let saved = filter_rises (is_saved w.forgets h c) 3 29 in
-            let short = saved.2 in
+            let regs = frame w.targets.near w.forgets h c in
+            let short = regs.few in
             let few = opened.few in
-            let some = opened.some in
+            let some = leap.some in
             let few_leap = leap.few in
             let needs = fn.needs in
             let room = site.room in
@@ -448,15 +561,16 @@ call_shown w n f sp xs ys h c d site again free j k s registers ram vs inside de
             λ q from to. (let apart : Apart (sp - bytes) q = (omega arith, (let top = site.top in omega arith), inr from) in b.kept.stays q apart (b.kept.fresh q apart (nothing_there q (omega arith) to))) in
             let next = j + length (call_items w.targets.near (w.targets.at h)) in
             let near : next < 2000000 = (let good = good_of w.code registers ram s.answers j ready in let most = good.few in let here = call_within w.code w.targets.near (w.targets.at h) j placed in let short = call_short w.targets.near (w.targets.at h) in omega arith) in
-            let back : word_at b.ram' (sp - bytes) ≡ 0x80300000 + 4 * next =
-            word_same opened.ram' b.ram' (sp - bytes) (omega arith) (λ q from to. stays q from (omega arith)) ∙ opened.back ∙ leap.back in
-            let closed = closes g last next sp (nest c) rs b.registers b.ram' b.after.answers b.after.trace good3 saved.0 saved.1 saved.2 ps.after b.stands.pointer site.top (omega arith) back near in
-            let stored3 : Stored leap.registers' b.ram' (sp - bytes + 4) rs =
-            stored_stays (sp - bytes + 4) rs leap.registers' opened.ram' b.ram' (omega arith) (λ q from to. stays q (omega arith) (omega arith)) opened.stored in
-            let through = stays_through w n f sp xs ys h c (sp - bytes + 4) next registers leap.registers' opened.registers' b.registers closed.registers' ram opened.ram' b.ram' s.answers leap.others opened.others b.untouched closed.others stored3 closed.stored in
+            let stored3 : Stored leap.registers' b.ram' (sp - bytes) rs =
+            stored_stays (sp - bytes) rs leap.registers' opened.ram' b.ram' (omega arith) (λ q from to. stays q (omega arith) (omega arith)) opened.stored in
+            let returns = returns_by w.targets.near w.forgets h c (sp - bytes) next leap.registers' opened.registers' b.registers b.ram' leap.back opened.link (b.untouched 1 (omega arith)) link refl stored3 in
+            let closed = closes g last next sp (nest c) rs b.registers b.ram' b.after.answers b.after.trace good3 regs.rises regs.kept regs.few ps.after b.stands.pointer site.top (omega arith) returns near in
+            let through = stays_through w n f sp xs ys h c (if link then sp - bytes + 4 else sp - bytes) next registers leap.registers' opened.registers' b.registers closed.registers' ram opened.ram' b.ram' s.answers leap.others opened.others
+            (λ y low out. b.untouched y (omega arith) (touches_far w.targets.near w.forgets c y low out)) (λ y none ne one. closed.others y (none_framed w.targets.near w.forgets h c y none one) ne one)
+            (saves_stored link (saves w.forgets h c) leap.registers' b.ram' (sp - bytes) stored3) (saves_stored link (saves w.forgets h c) closed.registers' b.ram' (sp - bytes) closed.stored) in
             let standing : Standing 10 ws b.registers = words_stand 10 c.results ws b.after.locals b.registers fn.results e (λ x v low high is. b.stands.values x v (omega arith) (omega arith) is) in
             let passed : (y : ℕ) → is_in c.results y ≡ true → 3 ≤ y → reads closed.registers' y ≡ reads b.registers y =
-            λ y is low. closed.others y (none_left (is_saved w.forgets h c) y 3 29 (not_saved y is)) (omega arith) (omega arith) in
+            λ y is low. closed.others y (none_framed w.targets.near w.forgets h c y (none_left (is_saved w.forgets h c) y 3 29 (not_saved y is)) (omega arith)) (omega arith) (omega arith) in
             let after : State = record b.after { locals = with_locals xs ws outer } in
             let runs = runs-append w.low (leap.steps + opened.steps) (b.steps + closed.steps) (at w.code j registers ram s.answers s.trace) (at w.code ps.start opened.registers' opened.ram' s.answers s.trace) (at w.code next closed.registers' b.ram' b.after.answers b.after.trace)
             (runs-append w.low leap.steps opened.steps (at w.code j registers ram s.answers s.trace) (at w.code place leap.registers' ram s.answers s.trace) (at w.code ps.start opened.registers' opened.ram' s.answers s.trace) leap.runs opened.runs)
@@ -485,7 +599,7 @@ call_shown w n f sp xs ys h c d site again free j k s registers ram vs inside de
               };
               untouched = λ y low out. untouched_by closed.registers' (let is4 = ready4.is in is4.registers) y low out through;
               kept = kept_above (sp + free) (sp - bytes) s.memory b.after.memory ram opened.ram' b.ram' (omega arith) b.kept (same_below (sp - bytes) opened.ram' refl opened.bytes_stay);
-              paced = both_ends closed.steps closed.few fn.bulk few some short b.paced;
+              paced = both_ends closed.steps closed.few fn.bulk few some few_leap short b.paced;
             })
           where
             not_saved : (y : ℕ) → is_in c.results y ≡ true → is_saved w.forgets h c y ≡ false
@@ -498,10 +612,10 @@ call_shown w n f sp xs ys h c d site again free j k s registers ram vs inside de
             among : (rs : List ℕ) (i : ℕ) → IsTrue (is_passing rs) → i < length rs → is_in rs (10 + i) ≡ true
             among rs i order less = in_order 10 rs i order less
 
-            both_ends : (last : ℕ) → last ≤ 6 + length (saves w.forgets h c) → 80 + sum (map statement_bulk c.body) ≤ w.total → opened.steps ≤ 5 + length (saves w.forgets h c) → 1 ≤ opened.steps → length (saves w.forgets h c) ≤ 29
+            both_ends : (last : ℕ) → last ≤ 7 + length (framed w.targets.near w.forgets h c) → 80 + sum (map statement_bulk c.body) ≤ w.total → opened.steps ≤ 6 + length (framed w.targets.near w.forgets h c) → 1 ≤ leap.steps → leap.steps ≤ 2 → length (framed w.targets.near w.forgets h c) ≤ 30
                 → Paced (inner w n f sp xs ys h c d site) (record s { locals = with_locals c.args vs no_locals; fuel = k }) b.after b.steps (sum (map statement_bulk c.body))
                 → Paced (ground w n f (suc d) sp site.under site.top site.four) (record s { fuel = suc k }) (record b.after { locals = with_locals xs ws (without_names (w.forgets h) s.locals) }) (leap.steps + opened.steps + (b.steps + last)) 2
-            both_ends last few_last fits few some short p =
+            both_ends last few_last fits few some few_leap short p =
                 let q = pace (record s { locals = with_locals c.args vs no_locals; fuel = k }) b.after 0 (leap.steps + opened.steps + last) b.steps 0 refl (omega arith) (omega arith) fits p in
                 let a1 = q.takes in let a2 = q.least in let a3 = q.most in
                 record { takes = a1; least = omega arith; most = omega arith }
@@ -518,9 +632,15 @@ call_shown w n f sp xs ys h c d site again free j k s registers ram vs inside de
                 forgotten true e is = absurd (cc)
                 forgotten false e is = through x low high (subst (λ q. is_in q x ≡ false) site.same_xs out) e ∙ stands.values x v low high is
 
-            untouched_by : (registers4 : List ℕ) → length registers4 ≡ 32 → (y : ℕ) → 3 ≤ y → changes w.forgets f y ≡ false
+            untouched_by : (registers4 : List ℕ) → length registers4 ≡ 32 → (y : ℕ) → y ≢ 2 → touches w.targets.near w.forgets f y ≡ false
                 → ((y : ℕ) → 3 ≤ y → y ≤ 31 → is_in c.results y ≡ false → w.forgets h y ≡ false → reads registers4 y ≡ reads registers y) → reads registers4 y ≡ reads registers y
-            untouched_by registers4 all4 y low out through =
+            untouched_by registers4 all4 zero low out through = refl
+            untouched_by registers4 all4 (suc zero) low out through = absurd (clash (sym site.linking ∙ out))
+              where
+                clash : true ≡ false → ⊥
+                clash e = absurd (cc)
+            untouched_by registers4 all4 (suc (suc zero)) low out through = absurd (low refl)
+            untouched_by registers4 all4 (suc (suc (suc y))) low out through =
                 let all = ready.is in
-                let two = site.touched y out in
-                same_anywhere registers registers4 y all.registers all4 (λ high. through y low high (subst (λ q. is_in q y ≡ false) site.same_xs two.0) two.1)
+                let two = site.touched (suc (suc (suc y))) out in
+                same_anywhere registers registers4 (suc (suc (suc y))) all.registers all4 (λ high. through (suc (suc (suc y))) (omega arith) high (subst (λ q. is_in q (suc (suc (suc y))) ≡ false) site.same_xs two.0) two.1)

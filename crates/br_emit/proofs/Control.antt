@@ -17,7 +17,7 @@ use Rattle.br_machine.specs.Arithmetic.{is_taken}
 use Rattle.br_machine.specs.Steps.{Moment}
 use Rattle.br_emit.specs.Code.{Item, Branching, otherwise, related, branching, over_items, skip_items, if_items}
 use Rattle.br_emit.proofs.Stepping.{at, Good, reads}
-use Rattle.br_emit.proofs.Pieces.{Ground, Placed, placed-front, placed-back, runs-append, Ready, Stands, Kept, Paced, WentOn, Shown, On, Out, Wrong, Simulates, given}
+use Rattle.br_emit.proofs.Pieces.{untouched_rests, other_rests, Ground, Placed, placed-front, placed-back, runs-append, Ready, Stands, Kept, Paced, WentOn, Shown, On, Out, Wrong, Simulates, given}
 use Rattle.br_emit.proofs.Setting.{ready_runs, good_of}
 use Rattle.br_emit.proofs.Leaves.{first_name, name_value, wrong_at_once}
 use Rattle.br_emit.proofs.Jumping.{Moves, over_jumps, takes, taken-opposite, skip_moves, skip_some}
@@ -68,9 +68,9 @@ shown_as g f h s m ram b end bulk same (Wrong w) = Wrong (record {
 pub stands_moves : (g : Ground) (b j to limit : ℕ) (s : State) (registers ram answers : List ℕ) (trace : List Event) → Stands b g.sp s registers ram
     → (m : Moves g j to registers ram answers trace limit) → Stands b g.sp s m.registers' ram
 stands_moves g b j to limit s registers ram answers trace stands m = record {
-  values = λ x v low high is. m.others x (omega arith) ∙ stands.values x v low high is;
+  values = λ x v low high is. m.others x (other_rests g x (omega arith)) ∙ stands.values x v low high is;
   held = stands.held;
-  pointer = m.others 2 (omega arith) ∙ stands.pointer;
+  pointer = m.others 2 (other_rests g 2 (omega arith)) ∙ stands.pointer;
 }
 
 pub ready_moves : (g : Ground) (j to limit : ℕ) (registers ram answers : List ℕ) (trace : List Event) → Ready g.code registers ram answers j
@@ -99,7 +99,7 @@ moves_first g f h s t registers ram b j to end limit bulk bulk' m same memory be
   runs = runs-append g.low m.steps w.steps (at g.code j registers ram s.answers s.trace) (at g.code to m.registers' ram s.answers s.trace) (at g.code end w.registers w.ram' w.after.answers w.after.trace) m.runs w.runs;
   ready = w.ready;
   stands = w.stands;
-  untouched = λ y low out. w.untouched y low out ∙ m.others y (omega arith);
+  untouched = λ y low out. w.untouched y low out ∙ m.others y (untouched_rests g y out);
   kept = subst (λ q. Kept b q w.after.memory ram w.ram') memory w.kept;
   paced = before w.after w.steps w.paced;
 })
@@ -151,7 +151,7 @@ moves_last g f s m ram b middle end bulk limit (On w) moves =
       runs = runs-append g.low w.steps n.steps m (at g.code middle w.registers w.ram' w.after.answers w.after.trace) (at g.code end n.registers' w.ram' w.after.answers w.after.trace) w.runs n.runs;
       ready = ready_moves g middle end limit w.registers w.ram' w.after.answers w.after.trace w.ready n;
       stands = stands_moves g b middle end limit w.after w.registers w.ram' w.after.answers w.after.trace w.stands n;
-      untouched = λ y low out. n.others y (omega arith) ∙ w.untouched y low out;
+      untouched = λ y low out. n.others y (untouched_rests g y out) ∙ w.untouched y low out;
       kept = w.kept;
       paced = record { takes = a1; least = omega arith; most = omega arith };
     })
@@ -308,12 +308,12 @@ if_shown g test first second s registers ram b j v is ks bulk1 bulk2 named ready
     moved : (to : ℕ) → (m : Moves g j to registers ram s.answers s.trace 3) → Ready g.code m.registers' ram s.answers to × Stands b g.sp s m.registers' ram
     moved to m = (ready_moves g j to 3 registers ram s.answers s.trace ready m, stands_moves g b j to 3 s registers ram s.answers s.trace stands m)
 
-    room : (is : List Item) → 1 ≤ length is → Placed g.code j is → j + length is ≤ 1048576
-    room is some placed = elim (placed_within g.code j is placed) [ inl e ↦ (let none = ap length e in absurd (omega arith)) | inr l ↦ omega arith ]
+    room : (is : List Item) → 1 ≤ length is → Placed g.code j is → j + length is ≤ length g.code
+    room is some placed = elim (placed_within g.code j is placed) [ inl e ↦ (let none = ap length e in absurd (omega arith)) | inr l ↦ l ]
 
     -- the branch, and then a part
     entered : (c : Branching) (n : ℕ) (taken : Bool) (f : State → Run) (end bulk : ℕ)
-        → Placed g.code j (skip_items c n) → j + length (skip_items c n) + n ≤ 1048576 → takes c registers ≡ taken
+        → Placed g.code j (skip_items c n) → j + length (skip_items c n) + n ≤ length g.code → takes c registers ≡ taken
         → ((rest : List Choice) → tested test first second (given s rest) ≡ f (given s rest)) → 3 + bulk ≤ 5 + bulk1 + bulk2
         → ((registers' : List ℕ) → Ready g.code registers' ram s.answers (if taken then j + length (skip_items c n) + n else j + length (skip_items c n)) → Stands b g.sp s registers' ram
         → Shown g f s (at g.code (if taken then j + length (skip_items c n) + n else j + length (skip_items c n)) registers' ram s.answers s.trace) ram b end bulk)

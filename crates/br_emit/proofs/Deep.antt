@@ -11,15 +11,15 @@ use Rattle.br_flatimp.specs.Parts.{callees}
 use Rattle.br_flatimp.specs.Liveness.{is_in}
 use Rattle.br_flatimp.specs.WellFormed.{are_registers, is_passing, counts_fit, all_differ}
 use Rattle.br_flatimp.specs.Runs.{State, Run, statement_step, function_of}
-use Rattle.br_emit.specs.Code.{call_items, changes, written_names}
+use Rattle.br_emit.specs.Code.{call_items, changes, touches, written_names}
 use Rattle.br_emit.proofs.Stepping.{at}
 use Rattle.br_emit.proofs.Pieces.{Shown, given}
 use Rattle.br_emit.proofs.Leaves.{both, true_false, wrong_at_once}
 use Rattle.br_emit.proofs.Looping.{out_of_fuel}
 use Rattle.br_emit.proofs.Passing.{same_order}
-use Rattle.br_emit.proofs.Statements.{is_fine}
+use Rattle.br_emit.proofs.Statements.{is_fine, or_false}
 use Rattle.br_emit.proofs.Calls.{World, ground, may_call, CallsAt}
-use Rattle.br_emit.proofs.Calling.{Site, call_shown}
+use Rattle.br_emit.proofs.Calling.{Site, call_shown, changes_of}
 
 -- ---- sets of names
 
@@ -73,20 +73,22 @@ record Allowed (w : World) (n : ℕ) (f : FlatFunc) (xs ys : List ℕ) (h : ℕ)
   fits : Fitting w xs ys h
   passing_xs : IsTrue (is_passing xs)
   passing_ys : IsTrue (is_passing ys)
-  touches : IsTrue (list_all (changes w.forgets f) xs)
+  touched : IsTrue (list_all (touches w.targets.near w.forgets f) xs)
+  linking : touches w.targets.near w.forgets f 1 ≡ true
   calls : is_in (callees f) h ≡ true
   needs : w.need h ≤ w.limit n
 
-allowed : (w : World) (n : ℕ) (f : FlatFunc) (xs ys : List ℕ) (h : ℕ) → IsTrue (is_fine {X = State → Run} w.fs (changes w.forgets f) (may_call f w.need (w.limit n)) (Stmt-F.Call xs h ys)) → Allowed w n f xs ys h
+allowed : (w : World) (n : ℕ) (f : FlatFunc) (xs ys : List ℕ) (h : ℕ) → IsTrue (is_fine {X = State → Run} w.fs (touches w.targets.near w.forgets f) (may_call f w.need (w.limit n)) (Stmt-F.Call xs h ys)) → Allowed w n f xs ys h
 allowed w n f xs ys h ok =
-    let h1 = both _ (list_all (may_call f w.need (w.limit n)) (h ∷ [])) ok in
-    let h2 = both _ (list_all (changes w.forgets f) xs) h1.0 in
+    let h0 = both _ (touches w.targets.near w.forgets f 1 || false) ok in
+    let h1 = both _ (list_all (may_call f w.need (w.limit n)) (h ∷ [])) h0.0 in
+    let h2 = both _ (list_all (touches w.targets.near w.forgets f) xs) h1.0 in
     let h3 = both _ (counts_fit (slice_get w.fs h) (length xs) (length ys) && all_differ xs) h2.0 in
     let h4 = both (are_registers xs && are_registers ys) (is_passing xs && is_passing ys) h3.0 in
     let h5 = both (is_passing xs) (is_passing ys) h4.1 in
     let h6 = both (may_call f w.need (w.limit n) h) true h1.1 in
     let h7 = both (is_in (callees f) h) (nat_le (w.need h) (w.limit n)) h6.0 in
-    record { fits = fitting w xs ys h h3.1; passing_xs = h5.0; passing_ys = h5.1; touches = h2.1; calls = h7.0; needs = at_most (w.need h) (w.limit n) h7.1 }
+    record { fits = fitting w xs ys h h3.1; passing_xs = h5.0; passing_ys = h5.1; touched = h2.1; linking = or_false (touches w.targets.near w.forgets f 1) h0.1; calls = h7.0; needs = at_most (w.need h) (w.limit n) h7.1 }
   where
     at_most : (a b : ℕ) → IsTrue (nat_le a b) → a ≤ b
     at_most a b e = grind (arith, nat_tests)
@@ -109,7 +111,8 @@ site w n f sp xs ys h under top four room caller a =
       passing_ys = a.passing_ys;
       same_xs = same_order 10 xs c.results a.passing_xs fn.results a.fits.size_xs;
       same_ys = same_order 10 ys c.args a.passing_ys fn.args a.fits.size_ys;
-      touched = λ y out. (out_of_all (changes w.forgets f) xs y a.touches out, kept y out (w.forgets h y) refl);
+      linking = a.linking;
+      touched = λ y out. (out_of_all (touches w.targets.near w.forgets f) xs y a.touched out, kept y (changes_of w.targets.near w.forgets f y out) (w.forgets h y) refl);
     }
   where
     kept : (y : ℕ) → changes w.forgets f y ≡ false → (t : Bool) → w.forgets h y ≡ t → w.forgets h y ≡ false

@@ -10,7 +10,7 @@ use Rattle.br_flatimp.specs.WellFormed.{are_registers, passes_in_order, values_f
 use Rattle.br_emit.specs.Laid.{is_fine}
 use Rattle.br_emit.specs.Ready.{immediates_fit, is_encodable}
 use Rattle.br_emit.proofs.Leaves.{both}
-use Rattle.br_emit.proofs.Assembled.{statement_fine}
+use Rattle.br_emit.proofs.Assembled.{throughout_true, statement_fine}
 
 and_of : (a b : Bool) → IsTrue a → IsTrue b → IsTrue (a && b)
 and_of true b h k = k
@@ -55,7 +55,8 @@ immediates fs (Stmt-F.Write y z) h = refl
 
 own_encodable : {X : Type 0} (fs : List FlatFunc) (y : Stmt-F X) → IsTrue (is_fine fs all all y) → IsTrue (is_encodable y)
 own_encodable fs y h =
-    let h1 = both (uses_registers y && values_fit fs y && list_all all (written y)) (list_all all (own_callees y)) h in
+    let h0 = both (uses_registers y && values_fit fs y && list_all all (written y) && list_all all (own_callees y)) true h in
+    let h1 = both (uses_registers y && values_fit fs y && list_all all (written y)) (list_all all (own_callees y)) h0.0 in
     let h2 = both (uses_registers y && values_fit fs y) (list_all all (written y)) h1.0 in
     let h3 = both (uses_registers y) (values_fit fs y) h2.0 in
     let h4 = both (are_registers (written y) && are_registers (read y)) (passes_in_order y) h3.0 in
@@ -100,5 +101,5 @@ body_encodable fs names (st ∷ body) h k =
     let h2 = both (throughout (fits fs names) st) (list_all (throughout (fits fs names)) body) h in
     let k2 = both (throughout uses_registers st) (list_all (throughout uses_registers) body) k in
     and_of (throughout is_encodable st) (list_all (throughout is_encodable) body)
-    (statement_encodable fs st (statement_fine fs names all all st h2.0 k2.0 (λ x l. refl) (λ g l. refl)))
+    (statement_encodable fs st (statement_fine fs names all all st h2.0 k2.0 (throughout_true st) (λ x l. refl) (λ g l. refl)))
     (body_encodable fs names body h2.1 k2.1)

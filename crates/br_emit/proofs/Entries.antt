@@ -1,8 +1,8 @@
 -- Entries, in code: a call from outside.
-use Rattle.std.proofs.Common.{◌≡◌, ◌≢◌, ◌⊎◌, inl, inr, ℕ, zero, suc, ◌+◌, ◌-◌, ◌*◌, ◌%◌, ◌<◌, ◌≤◌, ◌||◌, List, [], ◌∷◌, ◌++◌, map, length, sum, Option, Some, None, Bool, true, false, IsTrue, refl, sym, ap, subst, ◌∙◌, arith, append-nil, append_assoc}
+use Rattle.std.proofs.Common.{not, ◌&&◌, nat_lt, ◌≡◌, ◌≢◌, ◌⊎◌, inl, inr, ℕ, zero, suc, ◌+◌, ◌-◌, ◌*◌, ◌%◌, ◌<◌, ◌≤◌, ◌||◌, List, [], ◌∷◌, ◌++◌, map, length, sum, Option, Some, None, Bool, true, false, IsTrue, refl, sym, ap, subst, ◌∙◌, arith, append-nil, append_assoc}
 use Rattle.std.specs.Prelude.{slice_get, slice_index, unwrap_or, IfSome}
 use Rattle.br_words.specs.Words.{IsWord}
-use Rattle.std.specs.List.{list_any, flat_map}
+use Rattle.std.specs.List.{list_all, list_any, flat_map}
 use Rattle.std.specs.FinMap as map
 use Rattle.std.proofs.Math.Nat.{mul-le-mul_left, mul-le-mul_right}
 use Rattle.br_words.specs.declared.layout.Layout.TheVariants.{Two}
@@ -16,7 +16,7 @@ use Rattle.br_flatimp.specs.declared.program.FlatFunc.{FlatFunc}
 use Rattle.br_flatimp.specs.declared.program.Stmt.{roll-Stmt}
 use Rattle.br_flatimp.specs.declared.program.Stmt.TheOpen.{Stmt-F}
 use Rattle.br_flatimp.specs.declared.program.Stmt.TheFolds.{fold-roll-Stmt}
-use Rattle.br_flatimp.specs.Parts.{written, parts, callees, own_callees}
+use Rattle.br_flatimp.specs.Parts.{throughout, written, parts, callees, own_callees}
 use Rattle.br_flatimp.specs.Values.{Locals, no_locals, with_locals, without_names, words_of}
 use Rattle.br_flatimp.specs.WellFormed.{is_passing}
 use Rattle.br_flatimp.specs.Liveness.{is_in}
@@ -30,7 +30,7 @@ use Rattle.br_machine.specs.State.{MachineState, IsMachine}
 use Rattle.br_machine.specs.Step.{step}
 use Rattle.br_machine.specs.Steps.{Runs}
 use Rattle.br_machine.specs.Start.{Leftover, IsLeftover, IsInData, start_ram, start}
-use Rattle.br_emit.specs.Code.{Item, Does, stack_items, direct_items, call_items, entry_items, all_items, changes, written_names}
+use Rattle.br_emit.specs.Code.{Item, Does, stack_items, direct_items, call_items, entry_items, all_items, keeps_link, changes, touches, written_names}
 use Rattle.br_emit.specs.Laid.{Laid, EntryShown}
 use Rattle.br_emit.specs.Reaches.{Reaches, HoldsResults, ShowsEnd, ShowsMemory}
 use Rattle.br_emit.proofs.Stepping.{Table, machine, at, Good, reads, register-machine, step-at, within_code}
@@ -40,7 +40,7 @@ use Rattle.br_emit.proofs.Operations.{constant_sets}
 use Rattle.br_emit.proofs.Passing.{Standing, words_stand, words_set, of_length, where_from}
 use Rattle.br_emit.proofs.Statements.{all_simulate}
 use Rattle.br_emit.proofs.Calls.{World, ground}
-use Rattle.br_emit.proofs.Calling.{Site, call_is, call_shown}
+use Rattle.br_emit.proofs.Calling.{changes_of, Site, call_is, call_shown}
 use Rattle.br_emit.proofs.Deep.{calls_at}
 use Rattle.br_emit.proofs.Starting.{first_registers, args_stand, start_ready, start_held}
 
@@ -167,11 +167,11 @@ direct_room : (low nest limit : ℕ) → low + nest + limit ≤ 0x80300000 → l
 direct_room low nest limit h = omega arith
 
 args_value : (args xs registers registers0 : List ℕ) (x v : ℕ) → IsTrue (is_passing xs) → length xs ≡ length args → 3 ≤ x
-    → ((y : ℕ) → y ≢ 2 → y ≢ 1 → reads registers y ≡ reads registers0 y) → Standing 10 args registers0 → with_locals xs args no_locals x ≡ Some v → reads registers x ≡ v
+    → ((y : ℕ) → y ≢ 2 → reads registers y ≡ reads registers0 y) → Standing 10 args registers0 → with_locals xs args no_locals x ≡ Some v → reads registers x ≡ v
 args_value args xs registers registers0 x v passing size low others standing is = by (where_from 10 xs args no_locals x v passing size is).from
   where
     by : ((i : ℕ) × (slice_get args i ≡ Some v) × (x ≡ 10 + i) × (i < length xs)) ⊎ ((no_locals x ≡ Some v) × (is_in xs x ≡ false)) → reads registers x ≡ v
-    by (inl (i, here, at_is, less)) = others x (omega arith) (omega arith) ∙ ap (reads registers0) at_is ∙ standing.at i v here
+    by (inl (i, here, at_is, less)) = others x (omega arith) ∙ ap (reads registers0) at_is ∙ standing.at i v here
     by (inr (none, out)) = absurd (clash none)
       where
         clash : None ≡ Some v → ⊥
@@ -259,6 +259,16 @@ caller_touches forgets n f y out =
     neither false true e = absurd (cc)
     neither true q e = absurd (cc)
 
+caller_links : (near : Bool) (forgets : Forgets) (n : ℕ) (f : FlatFunc) → touches near forgets (caller_of n f) 1 ≡ true
+caller_links near forgets n f =
+    let calls : throughout keeps_link (roll-Stmt (Stmt-F.Call f.results n f.args)) ≡ false = fold-roll-Stmt Bool (λ y. keeps_link y && list_all (list_all (λ ok. ok)) (parts y)) (Stmt-F.Call f.results n f.args) in
+    ap (λ b. changes forgets (caller_of n f) 1 || (not near || (not (b && true) || nat_lt 2047 (nest (caller_of n f))))) calls ∙ or_or (changes forgets (caller_of n f) 1) (not near)
+  where
+    or_or : (a b : Bool) → (a || (b || true)) ≡ true
+    or_or true b = refl
+    or_or false true = refl
+    or_or false false = refl
+
 -- results that are handed on are seen as they were
 handed_on : (xs : List ℕ) (outer : Locals) (r : Run) → IsTrue (is_passing xs) → seen (returned (words_of xs) (back_in (with_locals xs) outer (returned (words_of xs) r))) ≡ seen (returned (words_of xs) r)
 handed_on xs outer (Ends end t) passing = refl
@@ -291,7 +301,8 @@ called_shown w n f place all need fuel there is_called placed few room more low_
       passing_ys = fn.args;
       same_xs = refl;
       same_ys = refl;
-      touched = λ y out. caller_touches w.forgets n f y out;
+      linking = caller_links w.targets.near w.forgets n f;
+      touched = λ y out. caller_touches w.forgets n f y (changes_of w.targets.near w.forgets c y out);
     } in
     let g = ground w 0 c (suc fuel) 0x80300000 site.under site.top site.four in
     let registers0 = first_registers args j in

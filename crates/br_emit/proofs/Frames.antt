@@ -27,7 +27,7 @@ use Rattle.br_emit.proofs.Jumping.{aligned}
 -- ---- the stack pointer moves
 
 -- some steps set the stack pointer, and change no other register but x1
-pub record Points (g : Ground) (j to : ℕ) (registers ram answers : List ℕ) (trace : List Event) (v limit : ℕ) : Type 0 where
+pub record Points (g : Ground) (j to n : ℕ) (registers ram answers : List ℕ) (trace : List Event) (v limit : ℕ) : Type 0 where
   pub registers' : List ℕ
   pub good : Good g.code registers' ram
   pub steps : ℕ
@@ -35,13 +35,17 @@ pub record Points (g : Ground) (j to : ℕ) (registers ram answers : List ℕ) (
   pub runs : Runs g.low steps (at g.code j registers ram answers trace) (at g.code to registers' ram answers trace)
   pub value : reads registers' 2 ≡ v
   pub others : (y : ℕ) → y ≢ 2 → y ≢ 1 → reads registers' y ≡ reads registers y
+  pub kept : is_short n ≡ true → reads registers' 1 ≡ reads registers 1
 
 pub move_points : (g : Ground) (j : ℕ) (registers ram answers : List ℕ) (trace : List Event) (n a v : ℕ)
     → Good g.code registers ram → Placed g.code j (move_items n) → reads registers 2 ≡ a → (a + n) % 2 ^ 32 ≡ v → a < 2 ^ 32
-    → Points g j (j + length (move_items n)) registers ram answers trace v 3
+    → Points g j (j + length (move_items n)) n registers ram answers trace v 3
 move_points g j registers ram answers trace n a v good placed is sum small = by (n == 0) (is_short n) refl refl placed
   where
-    from_sets : (k steps : ℕ) (w : ℕ) → Sets g j k registers ram answers trace 2 w steps → w ≡ v → steps ≤ 3 → Points g j (j + k) registers ram answers trace v 3
+    clash : true ≡ false → ⊥
+    clash e = absurd (cc)
+
+    from_sets : (k steps : ℕ) (w : ℕ) → Sets g j k registers ram answers trace 2 w steps → w ≡ v → steps ≤ 3 → Points g j (j + k) n registers ram answers trace v 3
     from_sets k steps w sets same few = record {
       registers' = sets.registers';
       good = sets.good;
@@ -49,12 +53,13 @@ move_points g j registers ram answers trace n a v good placed is sum small = by 
       few = few;
       runs = sets.runs;
       value = sets.value ∙ same;
-      others = λ y ne one. sets.others y ne one;
+      others = λ y ne one. sets.others y ne;
+      kept = λ short. sets.others 1 (omega arith);
     }
 
     by : (b c : Bool) → (n == 0) ≡ b → is_short n ≡ c
         → Placed g.code j (if b then [] else if c then Does (Imm Addi 2 2 (low_part n)) ∷ [] else constant_items 1 n ++ Does (Reg Add 2 2 1) ∷ [])
-        → Points g j (j + length (if b then [] else if c then Does (Imm Addi 2 2 (low_part n)) ∷ [] else constant_items 1 n ++ Does (Reg Add 2 2 1) ∷ [])) registers ram answers trace v 3
+        → Points g j (j + length (if b then [] else if c then Does (Imm Addi 2 2 (low_part n)) ∷ [] else constant_items 1 n ++ Does (Reg Add 2 2 1) ∷ [])) n registers ram answers trace v 3
     by true c e k p =
         let none : n ≡ 0 = grind (arith, nat_tests) in
         let here : j ≡ j + 0 = omega arith in
@@ -66,17 +71,18 @@ move_points g j registers ram answers trace n a v good placed is sum small = by 
           runs = ap (λ q. at g.code q registers ram answers trace) here;
           value = is ∙ omega arith;
           others = λ y ne one. refl;
+          kept = λ short. refl;
         }
     by false true e k p =
         let short = short_value n k in
         let value : (a + wrapped (low_part n)) % 2 ^ 32 ≡ v = omega arith in
         from_sets 1 1 _ (imm_sets g j registers ram answers trace Addi 2 2 a (low_part n) good p.0 p.1 (omega arith) is) value (omega arith)
-    by false false e k p =
+    by false false e k_is p =
         let first = constant_sets g j registers ram answers trace 1 n good (placed-front g.code j (constant_items 1 n) (Does (Reg Add 2 2 1) ∷ []) p) (omega arith) in
         let last = placed-back g.code j (constant_items 1 n) (Does (Reg Add 2 2 1) ∷ []) p in
         let sets = first.sets in
         let k = length (constant_items 1 n) in
-        let pointer : reads sets.registers' 2 ≡ a = sets.others 2 (omega arith) (omega arith) ∙ is in
+        let pointer : reads sets.registers' 2 ≡ a = sets.others 2 (omega arith) ∙ is in
         let second = reg_sets g (j + k) sets.registers' ram answers trace Add 2 2 1 a n sets.good last.0 last.1 (omega arith) pointer sets.value in
         let few = first.few in
         let size : j + k + 1 ≡ j + length (constant_items 1 n ++ Does (Reg Add 2 2 1) ∷ []) = omega (arith, length-append (constant_items 1 n) (Does (Reg Add 2 2 1) ∷ [])) in
@@ -88,7 +94,8 @@ move_points g j registers ram answers trace n a v good placed is sum small = by 
           runs = subst (λ q. Runs g.low (first.steps + 1) (at g.code j registers ram answers trace) (at g.code q second.registers' ram answers trace)) size
               (runs-append g.low first.steps 1 (at g.code j registers ram answers trace) (at g.code (j + k) sets.registers' ram answers trace) (at g.code (j + k + 1) second.registers' ram answers trace) sets.runs second.runs);
           value = second.value ∙ sum;
-          others = λ y ne one. second.others y ne one ∙ sets.others y one one;
+          others = λ y ne one. second.others y ne ∙ sets.others y one;
+          kept = λ short. absurd (clash (sym short ∙ k_is));
         }
 
 -- ---- words of the stack
@@ -192,6 +199,10 @@ saves_run g (r ∷ rs) j i a registers ram answers trace good words placed here 
 
 -- ---- restoring
 
+-- a register that may be restored
+abbrev pub IsKept : ℕ → Type 0
+IsKept q = (1 ≤ q) × (q ≢ 2)
+
 -- numbers rise
 abbrev pub Rises : List ℕ → Type 0
 Rises [] = Unit {0}
@@ -206,25 +217,26 @@ pub record Restored (g : Ground) (j to : ℕ) (registers ram answers : List ℕ)
   pub good : Good g.code registers' ram
   pub runs : Runs g.low n (at g.code j registers ram answers trace) (at g.code to registers' ram answers trace)
   pub stored : Stored registers' ram a rs
-  pub others : (y : ℕ) → NoneOf y rs → y ≢ 1 → reads registers' y ≡ reads registers y
+  pub others : (y : ℕ) → NoneOf y rs → reads registers' y ≡ reads registers y
 
 none_of : (r : ℕ) (rs : List ℕ) → AllByRecursion (λ q. r < q) rs → NoneOf r rs
 none_of r [] h = tt
 none_of r (q ∷ rs) h = (let l = h.0 in omega arith, none_of r rs h.1)
 
 pub restores_run : (g : Ground) (rs : List ℕ) (j i a : ℕ) (registers ram answers : List ℕ) (trace : List Event)
-    → Good g.code registers ram → Placed g.code j (restore_items i rs) → Rises rs → AllByRecursion (λ q. 3 ≤ q) rs
+    → Good g.code registers ram → Placed g.code j (restore_items i rs) → Rises rs → AllByRecursion IsKept rs
     → reads registers 2 + 4 * i ≡ a → g.low ≤ a → a + 4 * length rs ≤ 0x80300000
     → Restored g j (j + length (restore_items i rs)) registers ram answers trace a (length rs) rs
 restores_run g [] j i a registers ram answers trace good placed rises names here low high =
     let same : j ≡ j + 0 = omega arith in
-    record { registers' = registers; good = good; runs = ap (λ q. at g.code q registers ram answers trace) same; stored = tt; others = λ y none one. refl }
+    record { registers' = registers; good = good; runs = ap (λ q. at g.code q registers ram answers trace) same; stored = tt; others = λ y none. refl }
 restores_run g (r ∷ rs) j i a registers ram answers trace good placed rises names here low high =
     let bottom = g.bottom in
-    let big = names.0 in
+    let big = names.0.0 in
+    let not_two = names.0.1 in
     let address_is : plus (reads registers 2) (pos (4 * i)) ≡ a = (let sum : (reads registers 2 + 4 * i % 2 ^ 32) % 2 ^ 32 ≡ a = omega arith in sum) in
     let first = load_sets g j registers ram answers trace Lw r 2 a (pos (4 * i)) good placed.0 placed.1 (omega arith) address_is (omega arith) (omega arith) (λ c from to in_stack. omega arith) in
-    let pointer : reads first.registers' 2 ≡ reads registers 2 = first.others 2 (omega arith) (omega arith) in
+    let pointer : reads first.registers' 2 ≡ reads registers 2 = first.others 2 (λ e. not_two (sym e)) in
     let rest = restores_run g rs (j + 1) (i + 1) (a + 4) first.registers' ram answers trace first.good placed.2 rises.1 names.1 (omega arith) (omega arith) (omega arith) in
     let size : j + 1 + length (restore_items (i + 1) rs) ≡ j + suc (length (restore_items (i + 1) rs)) = omega arith in
     record {
@@ -235,49 +247,30 @@ restores_run g (r ∷ rs) j i a registers ram answers trace good placed rises na
           subst (λ n. Runs g.low n (at g.code j registers ram answers trace) (at g.code (j + suc (length (restore_items (i + 1) rs))) rest.registers' ram answers trace)) count
           (subst (λ q. Runs g.low (1 + length rs) (at g.code j registers ram answers trace) (at g.code q rest.registers' ram answers trace)) size
           (runs-append g.low 1 (length rs) (at g.code j registers ram answers trace) (at g.code (j + 1) first.registers' ram answers trace) (at g.code (j + 1 + length (restore_items (i + 1) rs)) rest.registers' ram answers trace) first.runs rest.runs));
-      stored = (sym (rest.others r (none_of r rs rises.0) (omega arith) ∙ first.value), rest.stored);
-      others = λ y none one. rest.others y none.1 one ∙ first.others y none.0 one;
+      stored = (sym (rest.others r (none_of r rs rises.0) ∙ first.value), rest.stored);
+      others = λ y none. rest.others y none.1 ∙ first.others y none.0;
     }
 
 -- ---- going back
 
--- the last three instructions: x1 is restored, the stack pointer moves up, and the caller goes on
-pub record Exits (g : Ground) (j to : ℕ) (registers ram answers : List ℕ) (trace : List Event) (v : ℕ) : Type 0 where
+pub record Exits (g : Ground) (j to : ℕ) (registers ram answers : List ℕ) (trace : List Event) : Type 0 where
   pub registers' : List ℕ
-  pub runs : Runs g.low 3 (at g.code j registers ram answers trace) (at g.code to registers' ram answers trace)
-  pub value : reads registers' 2 ≡ v
-  pub others : (y : ℕ) → y ≢ 2 → y ≢ 1 → reads registers' y ≡ reads registers y
+  pub runs : Runs g.low 1 (at g.code j registers ram answers trace) (at g.code to registers' ram answers trace)
+  pub others : (y : ℕ) → reads registers' y ≡ reads registers y
 
-pub exit_run : (g : Ground) (j to n v : ℕ) (registers ram answers : List ℕ) (trace : List Event)
-    → Good g.code registers ram → Placed g.code j (exit_items n)
-    → word_at ram (reads registers 2) ≡ 0x80300000 + 4 * to → reads registers 2 + n ≡ v → v ≤ 0x80300000 → g.low ≤ reads registers 2 → reads registers 2 + 4 ≤ 0x80300000 → to < 2000000
-    → Exits g j to registers ram answers trace v
-exit_run g j to n v registers ram answers trace good placed back sum high low inside near =
-    let bottom = g.bottom in
-    let a = reads registers 2 in
-    let w = 0x80300000 + 4 * to in
-    let all = good.all in
-    let address_is : plus (reads registers 2) (pos 0) ≡ a = (let same : (a + 0 % 2 ^ 32) % 2 ^ 32 ≡ a = omega arith in same) in
-    let first = load_steps g j registers ram answers trace Lw 1 2 a (pos 0) good placed.0 placed.1 address_is (omega arith) (omega arith) (λ c from to in_stack. omega arith) in
-    let registers1 = put 1 (word_at ram a) registers in
-    let good1 = Good-put g.code registers ram 1 (word_at ram a) good in
-    let two1 : reads registers1 2 ≡ a = reads-put_other 1 2 (word_at ram a) registers (omega arith) in
-    let one1 : reads registers1 1 ≡ w = reads-put_same 1 (word_at ram a) registers (omega arith) (omega arith) ∙ back in
-    let v2 = (register (machine g.code (j + 1) registers1 ram) 2 + n % 2 ^ 32) % 2 ^ 32 in
-    let second = step_sets g.table g.code registers1 ram answers trace g.low (j + 1) (Imm Addi 2 2 (pos n)) 2 v2 good1 placed.2.0 placed.2.1 refl refl (IsAbove-none g.low) in
-    let registers2 = put 2 v2 registers1 in
-    let good2 = Good-put g.code registers1 ram 2 v2 good1 in
-    let v2_is : v2 ≡ v = ap (λ q. (q + n % 2 ^ 32) % 2 ^ 32) two1 ∙ omega arith in
-    let one2 : reads registers2 1 ≡ w = reads-put_other 2 1 v2 registers1 (omega arith) ∙ one1 in
-    let t = (register (machine g.code (j + 1 + 1) registers2 ram) 1 + 0 % 2 ^ 32) % 2 ^ 32 / 2 * 2 in
-    let target : t ≡ w = ap (λ q. (q + 0 % 2 ^ 32) % 2 ^ 32 / 2 * 2) one2 ∙ even to near in
-    let fine : trap_of (Jalr 0 1 (pos 0)) (machine g.code (j + 1 + 1) registers2 ram) ≡ None = aligned t (ap (λ q. q % 4) target ∙ multiple to) in
-    let third = step_goes g.table g.code registers2 ram answers trace g.low (j + 1 + 1) to (Jalr 0 1 (pos 0)) 0 ((0x80300000 + 4 * (j + 1 + 1) + 4) % 2 ^ 32) t good2 placed.2.2.0 placed.2.2.1 fine refl target (IsAbove-none g.low) in
+-- the caller goes on
+pub exit_run : (g : Ground) (j to : ℕ) (registers ram answers : List ℕ) (trace : List Event)
+    → Good g.code registers ram → Placed g.code j exit_items → reads registers 1 ≡ 0x80300000 + 4 * to → to < 2000000
+    → Exits g j to registers ram answers trace
+exit_run g j to registers ram answers trace good placed back near =
+    let t = (register (machine g.code j registers ram) 1 + 0 % 2 ^ 32) % 2 ^ 32 / 2 * 2 in
+    let target : t ≡ 0x80300000 + 4 * to = ap (λ q. (q + 0 % 2 ^ 32) % 2 ^ 32 / 2 * 2) back ∙ even to near in
+    let fine : trap_of (Jalr 0 1 (pos 0)) (machine g.code j registers ram) ≡ None = aligned t (ap (λ q. q % 4) target ∙ multiple to) in
+    let step = step_goes g.table g.code registers ram answers trace g.low j to (Jalr 0 1 (pos 0)) 0 ((0x80300000 + 4 * j + 4) % 2 ^ 32) t good placed.0 placed.1 fine refl target (IsAbove-none g.low) in
     record {
-      registers' = registers2;
-      runs = (at g.code (j + 1) registers1 ram answers trace, first, (at g.code (j + 1 + 1) registers2 ram answers trace, second, (at g.code to registers2 ram answers trace, third, refl)));
-      value = reads-put_same 2 v2 registers1 (omega arith) (omega (arith, good1.all)) ∙ v2_is;
-      others = λ y ne one. reads-put_other 2 y v2 registers1 ne ∙ reads-put_other 1 y (word_at ram a) registers one;
+      registers' = registers;
+      runs = (at g.code to registers ram answers trace, step, refl);
+      others = λ y. refl;
     }
   where
     even : (to : ℕ) → to < 2000000 → (0x80300000 + 4 * to + 0 % 2 ^ 32) % 2 ^ 32 / 2 * 2 ≡ 0x80300000 + 4 * to

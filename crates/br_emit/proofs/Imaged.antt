@@ -208,12 +208,12 @@ code_is forgets fs ns code dead closed form is few fit items all_fit = record {
   items = items;
   fit = all_fit;
   few = let most = code_most forgets fs code items in omega (arith, most, fit);
-  reach = λ near. (let most = code_most forgets fs code items in let small : flat_bulk fs ≤ 262144 = grind (arith, nat_tests) in omega (arith, most, small));
+  reach = λ near. (let most = code_most forgets fs code items in let small : flat_bulk fs < 262144 = grind (arith, nat_tests) in omega (arith, most, small));
   aimed = aimed_at forgets fs;
   dead = dead;
   needs = λ n f there.
       let own = needed fs ns is few n f there in
-      let enough = own_need_is_enough forgets fs n f closed there in
+      let enough = own_need_is_enough (is_near_program fs) forgets fs n f closed there in
       let limit : callee_need fs (λ g. get_or ns g 0) n ≡ largest (map (λ g. get_or ns g 0) (callees f)) = rw there refl in
       omega (arith, own, enough, limit);
 }

@@ -18,10 +18,10 @@ use Rattle.br_machine.specs.Traps.{jump_trap, trap_of}
 use Rattle.br_machine.specs.Effects.{at_pc, next_pc}
 use Rattle.br_machine.specs.Steps.{StepsTo, Runs}
 use Rattle.br_emit.specs.Code.{Does, low_part, high_part, jump_items, over_items, Branching, opposite_branch, otherwise, branch_item, skip_items, back_items}
-use Rattle.br_emit.proofs.Stepping.{machine, at, Good, Has, put, reads, Good-put, register-machine, reads-put_same, reads-put_other, step_sets, step_goes, IsAbove-none}
-use Rattle.br_emit.proofs.Pieces.{Ground, Placed, runs-append, runs_one}
+use Rattle.br_emit.proofs.Stepping.{machine, at, Good, Has, put, reads, within_code, Good-put, register-machine, reads-put_same, reads-put_other, step_sets, step_goes, IsAbove-none}
+use Rattle.br_emit.proofs.Pieces.{Ground, Rests, Placed, runs-append, runs_one}
 
--- some steps, at most so many, lead from word j to word `to`, and change no register but x1
+-- some steps, at most so many, lead from word j to word `to`, and change no register but x1 where that may be
 pub record Moves (g : Ground) (j to : ℕ) (registers ram answers : List ℕ) (trace : List Event) (limit : ℕ) : Type 0 where
   pub registers' : List ℕ
   pub good : Good g.code registers' ram
@@ -29,7 +29,7 @@ pub record Moves (g : Ground) (j to : ℕ) (registers ram answers : List ℕ) (t
   pub some : 1 ≤ steps
   pub few : steps ≤ limit
   pub runs : Runs g.low steps (at g.code j registers ram answers trace) (at g.code to registers' ram answers trace)
-  pub others : (y : ℕ) → y ≢ 1 → reads registers' y ≡ reads registers y
+  pub others : (y : ℕ) → Rests g y → reads registers' y ≡ reads registers y
 
 -- ---- jumps
 
@@ -55,29 +55,61 @@ far_value pc w small = by (nat_lt (w % 4096) 2048) refl
 pub aligned : (a : ℕ) → a % 4 ≡ 0 → jump_trap a ≡ None
 aligned a h = ap (λ r. if r == 0 then None else Some FetchMisaligned) h
 
--- x0 or x1
-abbrev IsLink : ℕ → Type 0
-IsLink link = (link ≡ 0) ⊎ (link ≡ 1)
+-- x0, or x1 where it may be changed
+abbrev pub IsLink : Ground → ℕ → Type 0
+IsLink g link = (link ≡ 0) ⊎ ((link ≡ 1) × (g.touched 1 ≡ true))
 
-reads-put_link : (link y v : ℕ) (registers : List ℕ) → IsLink link → y ≢ 1 → reads (put link v registers) y ≡ reads registers y
-reads-put_link link y v registers (inl z) ne = ap (λ r. reads (put r v registers) y) z
-reads-put_link link y v registers (inr o) ne = reads-put_other link y v registers (λ is. ne (is ∙ o))
+pub rests_not : (g : Ground) (y : ℕ) → g.touched 1 ≡ true → Rests g y → y ≢ 1
+rests_not g y touched rests is = clash (sym touched ∙ rests is)
+  where
+    clash : true ≡ false → ⊥
+    clash e = absurd (cc)
+
+reads-put_link : (g : Ground) (link y v : ℕ) (registers : List ℕ) → IsLink g link → Rests g y → reads (put link v registers) y ≡ reads registers y
+reads-put_link g link y v registers (inl z) rests = ap (λ r. reads (put r v registers) y) z
+reads-put_link g link y v registers (inr o) rests = reads-put_other link y v registers (λ is. rests_not g y o.1 rests (is ∙ o.0))
+
+-- x1 may be changed, or each jump inside the code is near
+abbrev MayGo : Ground → ℕ → ℕ → Type 0
+MayGo g j to = g.touched 1 ≡ false → (j ≤ length g.code) × (to ≤ length g.code)
+
+far_touches : (g : Ground) (j to w : ℕ) → MayGo g j to → w < 2 ^ 32 → (0x80300000 + 4 * j + w) % 2 ^ 32 ≡ 0x80300000 + 4 * to
+    → (nat_lt w (2 ^ 20) || nat_le (2 ^ 32 - 2 ^ 20) w) ≡ false → g.touched 1 ≡ true
+far_touches g j to w may small leads far = by (g.touched 1) refl
+  where
+    neither : (a b : Bool) → (a || b) ≡ false → (a ≡ false) × (b ≡ false)
+    neither false false e = (refl, refl)
+    neither false true e = absurd (cc)
+    neither true b e = absurd (cc)
+
+    apart : (j to w n : ℕ) → n < 262144 → j ≤ n → to ≤ n → 2 ^ 20 ≤ w → w < 2 ^ 32 - 2 ^ 20 → (0x80300000 + 4 * j + w) % 2 ^ 32 ≡ 0x80300000 + 4 * to → ⊥
+    apart j to w n few h k above below leads = absurd (omega arith)
+
+    by : (b : Bool) → g.touched 1 ≡ b → b ≡ true
+    by true e = refl
+    by false e =
+        let short = g.short e in
+        let inside = may e in
+        let both = neither (nat_lt w (2 ^ 20)) (nat_le (2 ^ 32 - 2 ^ 20) w) far in
+        let above : 2 ^ 20 ≤ w = ltb-false w (2 ^ 20) both.0 in
+        let below : w < 2 ^ 32 - 2 ^ 20 = (let e2 = both.1 in grind (arith, nat_tests)) in
+        absurd (apart j to w (length g.code) short inside.0 inside.1 above below leads)
 
 reads_link : (link v : ℕ) (registers : List ℕ) → length registers ≡ 32 → link ≡ 1 → reads (put link v registers) 1 ≡ v
 reads_link link v registers all is = ap (λ r. reads (put r v registers) 1) is ∙ reads-put_same 1 v registers (omega arith) (omega arith)
 
 pub jumps_by : (g : Ground) (j to link w : ℕ) (registers ram answers : List ℕ) (trace : List Event)
-    → Good g.code registers ram → Placed g.code j (jump_items link w) → IsLink link → w < 2 ^ 32
+    → Good g.code registers ram → Placed g.code j (jump_items link w) → IsLink g link → MayGo g j to → w < 2 ^ 32
     → (0x80300000 + 4 * j + w) % 2 ^ 32 ≡ 0x80300000 + 4 * to → j < 2000000
     → Jumps g j (j + length (jump_items link w)) to link registers ram answers trace
-jumps_by g j to link w registers ram answers trace good placed is_link small leads inside = by (nat_lt w (2 ^ 20) || nat_le (2 ^ 32 - 2 ^ 20) w) placed
+jumps_by g j to link w registers ram answers trace good placed is_link may small leads inside = by (nat_lt w (2 ^ 20) || nat_le (2 ^ 32 - 2 ^ 20) w) refl placed
   where
     all : length registers ≡ 32
     all = good.all
 
-    by : (b : Bool) → Placed g.code j (if b then Does (Jal link (signed w)) ∷ [] else Does (Upper Auipc 1 (high_part w % 2 ^ 20)) ∷ Does (Jalr link 1 (low_part w)) ∷ [])
+    by : (b : Bool) → (nat_lt w (2 ^ 20) || nat_le (2 ^ 32 - 2 ^ 20) w) ≡ b → Placed g.code j (if b then Does (Jal link (signed w)) ∷ [] else Does (Upper Auipc 1 (high_part w % 2 ^ 20)) ∷ Does (Jalr link 1 (low_part w)) ∷ [])
         → Jumps g j (j + length (if b then Does (Jal link (signed w)) ∷ [] else Does (Upper Auipc 1 (high_part w % 2 ^ 20)) ∷ Does (Jalr link 1 (low_part w)) ∷ [])) to link registers ram answers trace
-    by true p =
+    by true e p =
         let v = (0x80300000 + 4 * j + 4) % 2 ^ 32 in
         let target : plus (0x80300000 + 4 * j) (signed w) ≡ 0x80300000 + 4 * to = ap (λ q. (0x80300000 + 4 * j + q) % 2 ^ 32) (wrapped-signed w small) ∙ leads in
         let fine : trap_of (Jal link (signed w)) (machine g.code j registers ram) ≡ None = aligned (plus (0x80300000 + 4 * j) (signed w)) (ap (λ a. a % 4) target ∙ omega arith) in
@@ -89,11 +121,12 @@ jumps_by g j to link w registers ram answers trace good placed is_link small lea
             some = omega arith;
             few = omega arith;
             runs = runs_one g.low _ _ (step_goes g.table g.code registers ram answers trace g.low j to (Jal link (signed w)) link v (plus (0x80300000 + 4 * j) (signed w)) good p.0 p.1 fine refl target (IsAbove-none g.low));
-            others = λ y ne. reads-put_link link y v registers is_link ne;
+            others = λ y rests. reads-put_link g link y v registers is_link rests;
           };
           link_is = λ o. reads_link link v registers all o ∙ omega arith;
         }
-    by false p =
+    by false e p =
+        let touched = far_touches g j to w may small leads e in
         let x = (0x80300000 + 4 * j + high_part w % 2 ^ 20 * 4096) % 2 ^ 32 in
         let first = step_sets g.table g.code registers ram answers trace g.low j (Upper Auipc 1 (high_part w % 2 ^ 20)) 1 x good p.0 p.1 refl refl (IsAbove-none g.low) in
         let registers1 = put 1 x registers in
@@ -112,7 +145,7 @@ jumps_by g j to link w registers ram answers trace good placed is_link small lea
             some = omega arith;
             few = omega arith;
             runs = (_, first, runs_one g.low _ _ (step_goes g.table g.code registers1 ram answers trace g.low (j + 1) to (Jalr link 1 (low_part w)) link v (a / 2 * 2) good1 p.2.0 p.2.1 fine refl target (IsAbove-none g.low)));
-            others = λ y ne. reads-put_link link y v registers1 is_link ne ∙ reads-put_other 1 y x registers ne;
+            others = λ y rests. reads-put_link g link y v registers1 is_link rests ∙ reads-put_other 1 y x registers (rests_not g y touched rests);
           };
           link_is = λ o. reads_link link v registers1 good1.all o ∙ after j inside;
         }
@@ -138,24 +171,27 @@ far_length : (link w : ℕ) → nat_lt w (2 ^ 20) ≡ false → nat_le (2 ^ 32 -
 far_length link w h k = rw (h, k) refl
 
 pub over_jumps : (g : Ground) (j n link : ℕ) (registers ram answers : List ℕ) (trace : List Event)
-    → Good g.code registers ram → Placed g.code j (over_items link n) → IsLink link → j + n < 2000000
+    → Good g.code registers ram → Placed g.code j (over_items link n) → IsLink g link → j + length (over_items link n) + n ≤ length g.code
     → Jumps g j (j + length (over_items link n)) (j + length (over_items link n) + n) link registers ram answers trace
-over_jumps g j n link registers ram answers trace good placed is_link inside = by (over_near n) refl placed
+over_jumps g j n link registers ram answers trace good placed is_link inside = by (over_near n) refl placed inside
   where
     by : (b : Bool) → over_near n ≡ b → Placed g.code j (if b then jump_items link (4 * (n + 1)) else jump_items link (4 * (n + 2)))
+        → j + length (if b then jump_items link (4 * (n + 1)) else jump_items link (4 * (n + 2))) + n ≤ length g.code
         → Jumps g j (j + length (if b then jump_items link (4 * (n + 1)) else jump_items link (4 * (n + 2)))) (j + length (if b then jump_items link (4 * (n + 1)) else jump_items link (4 * (n + 2))) + n) link registers ram answers trace
-    by true e p =
+    by true e p inside =
+        let few = good.few in
         let l = ltb-true (4 * (n + 1)) (2 ^ 20) e in
         let one = near_length link (4 * (n + 1)) e in
         let leads : (0x80300000 + 4 * j + 4 * (n + 1)) % 2 ^ 32 ≡ 0x80300000 + 4 * (j + length (jump_items link (4 * (n + 1))) + n) = omega arith in
-        jumps_by g j (j + length (jump_items link (4 * (n + 1))) + n) link (4 * (n + 1)) registers ram answers trace good p is_link (omega arith) leads (omega arith)
-    by false e p =
+        jumps_by g j (j + length (jump_items link (4 * (n + 1))) + n) link (4 * (n + 1)) registers ram answers trace good p is_link (λ e. (omega arith, inside)) (omega arith) leads (omega arith)
+    by false e p inside =
+        let few = good.few in
         let l = ltb-false (4 * (n + 1)) (2 ^ 20) e in
         let first : nat_lt (4 * (n + 2)) (2 ^ 20) ≡ false = not_below (4 * (n + 2)) (2 ^ 20) (omega arith) in
         let second : nat_le (2 ^ 32 - 2 ^ 20) (4 * (n + 2)) ≡ false = not_above (2 ^ 32 - 2 ^ 20) (4 * (n + 2)) (omega arith) in
         let two = far_length link (4 * (n + 2)) first second in
         let leads : (0x80300000 + 4 * j + 4 * (n + 2)) % 2 ^ 32 ≡ 0x80300000 + 4 * (j + length (jump_items link (4 * (n + 2))) + n) = omega arith in
-        jumps_by g j (j + length (jump_items link (4 * (n + 2))) + n) link (4 * (n + 2)) registers ram answers trace good p is_link (omega arith) leads (omega arith)
+        jumps_by g j (j + length (jump_items link (4 * (n + 2))) + n) link (4 * (n + 2)) registers ram answers trace good p is_link (λ e. (omega arith, inside)) (omega arith) leads (omega arith)
       where
         not_below : (a b : ℕ) → b ≤ a → nat_lt a b ≡ false
         not_below a b h = grind (arith, nat_tests)
@@ -249,30 +285,35 @@ over_length link n = from (over_near n)
 
 -- a branch with the opposite relation over a jump, or one that is near
 pub skip_moves : (g : Ground) (j n : ℕ) (c : Branching) (registers ram answers : List ℕ) (trace : List Event) (taken : Bool)
-    → Good g.code registers ram → Placed g.code j (skip_items c n) → takes c registers ≡ taken → j + n + 1 < 2000000
+    → Good g.code registers ram → Placed g.code j (skip_items c n) → takes c registers ≡ taken → j + length (skip_items c n) + n ≤ length g.code
     → Moves g j (if taken then j + length (skip_items c n) + n else j + length (skip_items c n)) registers ram answers trace 3
-skip_moves g j n c registers ram answers trace taken good placed is inside = by (nat_lt (4 * (n + 1)) 4096) refl placed
+skip_moves g j n c registers ram answers trace taken good placed is inside = by (nat_lt (4 * (n + 1)) 4096) refl placed inside
   where
     by : (b : Bool) → nat_lt (4 * (n + 1)) 4096 ≡ b
         → Placed g.code j (if b then branch_item c (pos (4 * (n + 1))) ∷ [] else branch_item (otherwise c) (pos (4 * (1 + length (over_items 0 n)))) ∷ over_items 0 n)
+        → j + length (if b then branch_item c (pos (4 * (n + 1))) ∷ [] else branch_item (otherwise c) (pos (4 * (1 + length (over_items 0 n)))) ∷ over_items 0 n) + n ≤ length g.code
         → Moves g j (if taken then j + length (if b then branch_item c (pos (4 * (n + 1))) ∷ [] else branch_item (otherwise c) (pos (4 * (1 + length (over_items 0 n)))) ∷ over_items 0 n) + n else j + length (if b then branch_item c (pos (4 * (n + 1))) ∷ [] else branch_item (otherwise c) (pos (4 * (1 + length (over_items 0 n)))) ∷ over_items 0 n)) registers ram answers trace 3
-    by true e p =
+    by true e p inside =
+        let few = good.few in
         let l = ltb-true (4 * (n + 1)) 4096 e in
         moves_wider g j _ registers ram answers trace 1 3 (omega arith)
         (branch_moves g j (j + 1 + n) c (pos (4 * (n + 1))) registers ram answers trace taken good p.0 p.1 is (omega arith) (omega arith))
-    by false e p = beyond taken is (over_length 0 n) p
+    by false e p inside = beyond taken is (over_length 0 n) p inside
       where
         beyond : (taken : Bool) → takes c registers ≡ taken → length (over_items 0 n) ≤ 2
             → Placed g.code j (branch_item (otherwise c) (pos (4 * (1 + length (over_items 0 n)))) ∷ over_items 0 n)
+            → j + suc (length (over_items 0 n)) + n ≤ length g.code
             → Moves g j (if taken then j + suc (length (over_items 0 n)) + n else j + suc (length (over_items 0 n))) registers ram answers trace 3
-        beyond true is few p =
+        beyond true is few p inside =
+            let most = good.few in
             let len = length (over_items 0 n) in
             let not_taken : takes (otherwise c) registers ≡ false = taken-opposite c.how (reads registers c.left) (reads registers c.right) ∙ ap not is in
             let first = branch_moves g j (j + 1 + len) (otherwise c) (pos (4 * (1 + len))) registers ram answers trace false good p.0 p.1 not_taken (omega arith) (omega arith) in
             let jump = over_jumps g (j + 1) n 0 first.registers' ram answers trace first.good p.2 (inl refl) (omega arith) in
             let same : j + 1 + len + n ≡ j + suc len + n = omega arith in
             subst (λ to. Moves g j to registers ram answers trace 3) same (moves_then g j (j + 1) (j + 1 + len + n) registers ram answers trace 1 2 first jump.moves)
-        beyond false is few p =
+        beyond false is few p inside =
+            let most = good.few in
             let len = length (over_items 0 n) in
             let opposite_taken : takes (otherwise c) registers ≡ true = taken-opposite c.how (reads registers c.left) (reads registers c.right) ∙ ap not is in
             let same : j + 1 + len ≡ j + suc len = omega arith in
@@ -318,10 +359,11 @@ back_moves g j n c registers ram answers trace taken good placed is room inside 
             → Placed g.code j (branch_item (otherwise c) (pos (4 * (1 + length (jump_items 0 (2 ^ 32 - 4 * (n + 1)))))) ∷ jump_items 0 (2 ^ 32 - 4 * (n + 1)))
             → Moves g j (if taken then j - n else j + suc (length (jump_items 0 (2 ^ 32 - 4 * (n + 1))))) registers ram answers trace 3
         beyond true is few p =
+            let here = within_code g.code j _ p.0 in
             let len = length (jump_items 0 (2 ^ 32 - 4 * (n + 1))) in
             let not_taken : takes (otherwise c) registers ≡ false = taken-opposite c.how (reads registers c.left) (reads registers c.right) ∙ ap not is in
             let first = branch_moves g j (j + 1 + len) (otherwise c) (pos (4 * (1 + len))) registers ram answers trace false good p.0 p.1 not_taken (omega arith) (omega arith) in
-            let jump = jumps_by g (j + 1) (j - n) 0 (2 ^ 32 - 4 * (n + 1)) first.registers' ram answers trace first.good p.2 (inl refl) (omega arith) (omega arith) (omega arith) in
+            let jump = jumps_by g (j + 1) (j - n) 0 (2 ^ 32 - 4 * (n + 1)) first.registers' ram answers trace first.good p.2 (inl refl) (λ e. (omega arith, omega arith)) (omega arith) (omega arith) (omega arith) in
             moves_then g j (j + 1) (j - n) registers ram answers trace 1 2 first jump.moves
         beyond false is few p =
             let len = length (jump_items 0 (2 ^ 32 - 4 * (n + 1))) in

@@ -14,9 +14,10 @@ use Rattle.br_flatimp.specs.WellFormed.{are_registers, operand_fits}
 use Rattle.br_flatimp.specs.Runs.{State, Run, Forgets, Callee, set_to, statement_step}
 use Rattle.br_emit.specs.Code.{constant_items, copy_items, op_items, statement_items, Targets}
 use Rattle.br_emit.proofs.Stepping.{at, reads}
-use Rattle.br_emit.proofs.Pieces.{Ground, Placed, Ready, Stands, kept_refl, Shown, On, Wrong, Simulates, given}
+use Rattle.br_emit.proofs.Pieces.{untouched_rests, other_rests, Rests, Ground, Placed, Ready, Stands, kept_refl, Shown, On, Wrong, Simulates, given}
 use Rattle.br_emit.proofs.Setting.{ready_runs, good_of}
 use Rattle.br_emit.proofs.Operations.{SetsWithin, constant_sets, by_name_sets, by_constant_sets, copy_sets, word_reads}
+use Rattle.br_machine.specs.Steps.{Runs}
 
 -- ---- tests that hold
 
@@ -74,6 +75,35 @@ values_set locals registers registers' x v values value others y w low high is =
         let ne : y ≢ x = grind (arith, nat_tests) in
         others y ne (omega arith) ∙ values y w low high h
 
+-- the same, where x1 may be changed too
+pub sets_with_link : (g : Ground) (f : State → Run) (s : State) (registers ram : List ℕ) (b j k x v limit : ℕ)
+    → ((rest : List Choice) → f (given s rest) ≡ Goes (given (set_to x v s) rest))
+    → IsName x → g.touched x ≡ true → Ready g.code registers ram s.answers j → Stands b g.sp s registers ram
+    → (registers' : List ℕ) (steps : ℕ) → steps ≤ limit → Runs g.low steps (at g.code j registers ram s.answers s.trace) (at g.code (j + k) registers' ram s.answers s.trace)
+    → reads registers' x ≡ v → ((y : ℕ) → y ≢ x → Rests g y → reads registers' y ≡ reads registers y)
+    → Shown g f s (at g.code j registers ram s.answers s.trace) ram b (j + k) limit
+sets_with_link g f s registers ram b j k x v limit goes name touched ready stands registers' steps few runs value others =
+    let low = name.low in
+    On (record {
+      choices = [];
+      chosen = tt;
+      after = set_to x v s;
+      goes = goes;
+      registers = registers';
+      ram' = ram;
+      steps = steps;
+      runs = runs;
+      ready = ready_runs g registers ram s.answers registers' ram s.answers s.trace s.trace j (j + k) steps ready runs;
+      stands = record {
+        values = values_set s.locals registers registers' x v stands.values value (λ y ne one. others y ne (other_rests g y one));
+        held = stands.held;
+        pointer = others 2 (omega arith) (other_rests g 2 (omega arith)) ∙ stands.pointer;
+      };
+      untouched = λ y low out. others y (λ same. absurd (true_false (sym touched ∙ ap g.touched (sym same) ∙ out))) (untouched_rests g y out);
+      kept = kept_refl b s.memory ram;
+      paced = record { takes = omega arith; least = omega arith; most = omega arith };
+    })
+
 pub sets_on : (g : Ground) (f : State → Run) (s : State) (registers ram : List ℕ) (b j k x v limit : ℕ)
     → ((rest : List Choice) → f (given s rest) ≡ Goes (given (set_to x v s) rest))
     → IsName x → g.touched x ≡ true → Ready g.code registers ram s.answers j → Stands b g.sp s registers ram
@@ -81,27 +111,7 @@ pub sets_on : (g : Ground) (f : State → Run) (s : State) (registers ram : List
     → Shown g f s (at g.code j registers ram s.answers s.trace) ram b (j + k) limit
 sets_on g f s registers ram b j k x v limit goes name touched ready stands within =
     let sets = within.sets in
-    let low = name.low in
-    let few = within.few in
-    On (record {
-      choices = [];
-      chosen = tt;
-      after = set_to x v s;
-      goes = goes;
-      registers = sets.registers';
-      ram' = ram;
-      steps = within.steps;
-      runs = sets.runs;
-      ready = ready_runs g registers ram s.answers sets.registers' ram s.answers s.trace s.trace j (j + k) within.steps ready sets.runs;
-      stands = record {
-        values = values_set s.locals registers sets.registers' x v stands.values sets.value sets.others;
-        held = stands.held;
-        pointer = sets.others 2 (omega arith) (omega arith) ∙ stands.pointer;
-      };
-      untouched = λ y low out. sets.others y (λ same. absurd (true_false (sym touched ∙ ap g.touched (sym same) ∙ out))) (omega arith);
-      kept = kept_refl b s.memory ram;
-      paced = record { takes = omega arith; least = omega arith; most = omega arith };
-    })
+    sets_with_link g f s registers ram b j k x v limit goes name touched ready stands sets.registers' within.steps within.few sets.runs sets.value (λ y ne rests. sets.others y ne)
 
 -- a run that has no meaning at once
 pub wrong_at_once : (g : Ground) (f : State → Run) (s : State) (registers ram : List ℕ) (b j end bulk : ℕ)

@@ -9,7 +9,7 @@ use Rattle.br_flatimp.specs.WellFormed.{are_registers}
 use Rattle.br_flatimp.specs.Runs.{State, Run}
 use Rattle.br_emit.specs.Code.{Item, branching, over_items, back_items, loop_items}
 use Rattle.br_emit.proofs.Stepping.{at}
-use Rattle.br_emit.proofs.Pieces.{Ground, Placed, placed-front, placed-back, Ready, Stands, kept_refl, Shown, On, Out, Simulates, given, followed, join, simulates_then}
+use Rattle.br_emit.proofs.Pieces.{untouched_rests, Ground, Placed, placed-front, placed-back, Ready, Stands, kept_refl, Shown, On, Out, Simulates, given, followed, join, simulates_then}
 use Rattle.br_emit.proofs.Setting.{good_of}
 use Rattle.br_emit.proofs.Leaves.{wrong_at_once}
 use Rattle.br_emit.proofs.Jumping.{Moves, over_jumps, back_moves, back_some}
@@ -35,7 +35,7 @@ stay_on g f s registers ram b j to limit goes ready stands m =
       runs = m.runs;
       ready = ready_moves g j to limit registers ram s.answers s.trace ready m;
       stands = stands_moves g b j to limit s registers ram s.answers s.trace stands m;
-      untouched = λ y low out. m.others y (omega arith);
+      untouched = λ y low out. m.others y (untouched_rests g y out);
       kept = kept_refl b s.memory ram;
       paced = record { takes = omega arith; least = omega arith; most = omega arith };
     })
@@ -205,11 +205,9 @@ loop_simulates g test first last is ks nest1 nest2 bulk1 bulk2 named sim1 sim2 f
         (turns_shown g test first last is ks nest1 nest2 bulk1 bulk2 free start place named sim1 sim2 (omega arith) (omega arith) (omega arith) multiple inside body here back near
         w.after.fuel w.after.fuel w.after w.registers w.ram' (omega arith) (let less = w.paced.takes in omega arith) w.ready w.stands))
 
-    within : (items : List Item) → 1 ≤ length items → Placed g.code j items → j + length items ≤ 1048576
+    within : (items : List Item) → 1 ≤ length items → Placed g.code j items → j + length items ≤ length g.code
     within items some placed =
-        let good = good_of g.code registers ram s.answers j ready in
-        let few = good.few in
-        elim (placed_within g.code j items placed) [ inl e ↦ (let none = ap length e in absurd (omega arith)) | inr l ↦ omega arith ]
+        elim (placed_within g.code j items placed) [ inl e ↦ (let none = ap length e in absurd (omega arith)) | inr l ↦ l ]
 
     by : (last_items : List Item) → ks free ≡ last_items → Placed g.code j (loop_items (is free) (branching test) last_items)
         → Shown g (looped test first last) s (at g.code j registers ram s.answers s.trace) ram (g.sp + free) (j + length (loop_items (is free) (branching test) last_items)) (5 + bulk1 + bulk2)
@@ -222,6 +220,8 @@ loop_simulates g test first last is ks nest1 nest2 bulk1 bulk2 named sim1 sim2 f
         let p2 = placed-back g.code j (is free) back placed in
         let l = length-append (is free) back in
         let some = back_some c k in
+        let good = good_of g.code registers ram s.answers j ready in
+        let few = good.few in
         let bound = within (is free ++ back) (omega arith) placed in
         let body : Placed g.code j (ks free ++ is free) = subst (λ q. Placed g.code j (q ++ is free)) (sym e) p1 in
         let here : j + length (ks free ++ is free) ≡ j + length (is free) = ap (λ q. j + length (q ++ is free)) e in
@@ -259,6 +259,7 @@ loop_simulates g test first last is ks nest1 nest2 bulk1 bulk2 named sim1 sim2 f
         let here : start + length (ks free ++ is free) ≡ middle + length (is free) = ap (λ q. start + length (q ++ is free)) e ∙ omega arith in
         let size : length (ks free) + length (is free) ≡ k = ap (λ q. length q + length (is free)) e in
         let good = good_of g.code registers ram s.answers j ready in
+        let few = good.few in
         let m = (over_jumps g j n 0 registers ram s.answers s.trace good p0 (inl refl) (omega arith)).moves in
         let run = all start middle m.registers' (ready_moves g j middle 2 registers ram s.answers s.trace ready m) (stands_moves g b j middle 2 s registers ram s.answers s.trace stands m) body here (omega arith) p1
         (subst (λ q. Placed g.code (middle + length (is free)) (back_items c q)) (sym size) p2) in

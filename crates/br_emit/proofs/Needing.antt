@@ -12,7 +12,7 @@ use Rattle.br_flatimp.specs.Parts.{written, read, parts, gathered, statement_nam
 use Rattle.br_flatimp.specs.Liveness.{is_in}
 use Rattle.br_flatimp.specs.Runs.{Forgets}
 use Rattle.br_flatimp.specs.Sizes.{nest, own_need}
-use Rattle.br_emit.specs.Code.{count_up, written_names, changes, is_saved, saved_bytes}
+use Rattle.br_emit.specs.Code.{count_up, written_names, changes, saves, touches, is_saved, framed_bytes}
 use Rattle.br_emit.specs.Registers.{IsClosed}
 
 -- ---- numbers that pass a test, and the different numbers of a list
@@ -239,9 +239,14 @@ saved_in forgets fs n f x closed there h =
         let owned = closed n f there found.0 found.1 x found.2 in
         sym (ap (λ b. b || is_in (function_names f) x) e) ∙ owned
 
--- what a function saves and its buffers are no more than what it needs for itself
-pub own_need_is_enough : (forgets : Forgets) (fs : List FlatFunc) (n : ℕ) (f : FlatFunc) → IsClosed forgets fs → slice_get fs n ≡ Some f → saved_bytes forgets n f + nest f ≤ own_need f
-own_need_is_enough forgets fs n f closed there =
+-- the frame of a function and its buffers are no more than what it needs for itself
+pub own_need_is_enough : (near : Bool) (forgets : Forgets) (fs : List FlatFunc) (n : ℕ) (f : FlatFunc) → IsClosed forgets fs → slice_get fs n ≡ Some f → framed_bytes near forgets n f + nest f ≤ own_need f
+own_need_is_enough near forgets fs n f closed there =
     let counted = filter_length (is_saved forgets n f) 3 29 in
     let few = few_passing (function_names f) (is_saved forgets n f) 3 29 (λ x h. saved_in forgets fs n f x closed there h) in
-    omega (arith, counted, few)
+    let more = one_more (touches near forgets f 1) (saves forgets n f) in
+    omega (arith, counted, few, more)
+  where
+    one_more : (t : Bool) (rs : List ℕ) → length (if t then 1 ∷ rs else rs) ≤ 1 + length rs
+    one_more true rs = omega arith
+    one_more false rs = omega arith

@@ -210,7 +210,7 @@ copy_sets g j registers ram answers trace x y v ready placed ne is = by (x == y)
             good = good_of g.code registers ram answers j ready;
             runs = ap (λ q. at g.code q registers ram answers trace) here;
             value = ap (reads registers) same ∙ is;
-            others = λ y ne one. refl;
+            others = λ y ne. refl;
           };
         }
     by false e p =

@@ -1,5 +1,5 @@
 -- What it is for a piece of code to run a part of a flat program, and how pieces are joined.
-use Rattle.std.proofs.Common.{Bool, false, ◌≡◌, ◌⊎◌, ℕ, zero, suc, ◌+◌, ◌-◌, ◌*◌, ◌%◌, ◌<◌, ◌≤◌, max, List, [], ◌∷◌, ◌++◌, length, Option, Some, None, refl, sym, ap, subst, ◌∙◌, arith, append_assoc, length-append}
+use Rattle.std.proofs.Common.{◌≢◌, Bool, false, ◌≡◌, ◌⊎◌, ℕ, zero, suc, ◌+◌, ◌-◌, ◌*◌, ◌%◌, ◌<◌, ◌≤◌, max, List, [], ◌∷◌, ◌++◌, length, Option, Some, None, refl, sym, ap, subst, ◌∙◌, arith, append_assoc, length-append}
 use Rattle.std.specs.Prelude.{slice_index, IfSome}
 use Rattle.std.specs.FinMap as map
 use Rattle.br_words.specs.Words.{IsWord}
@@ -29,7 +29,7 @@ pub record Ground : Type 0 where
   pub sp : ℕ
   -- calls are followed so deep, and no state has more fuel
   pub depth : ℕ
-  -- the names that may be written
+  -- the names that may be written, and x1 where it may be changed
   pub touched : ℕ → Bool
   -- the functions that may be called
   pub called : ℕ → Bool
@@ -41,6 +41,18 @@ pub record Ground : Type 0 where
   pub under : low ≤ sp
   pub top : sp ≤ 0x80300000
   pub aligned : sp % 4 ≡ 0
+  -- where x1 may not be changed, no jump is far
+  pub short : touched 1 ≡ false → length code < 262144
+
+-- x1 only where it may not be changed, and any other register
+abbrev pub Rests : Ground → ℕ → Type 0
+Rests g y = y ≡ 1 → g.touched 1 ≡ false
+
+pub other_rests : (g : Ground) (y : ℕ) → y ≢ 1 → Rests g y
+other_rests g y ne is = absurd (ne is)
+
+pub untouched_rests : (g : Ground) (y : ℕ) → g.touched y ≡ false → Rests g y
+untouched_rests g y out is = subst (λ q. g.touched q ≡ false) is out
 
 pub placed-front : (code : List ℕ) (j : ℕ) (is ks : List Item) → Placed code j (is ++ ks) → Placed code j is
 placed-front code j [] ks h = tt
@@ -111,9 +123,9 @@ pub record Paced (g : Ground) (s t : State) (n bulk : ℕ) : Type 0 where
   pub least : s.fuel ≤ t.fuel + n
   pub most : n ≤ bulk + (s.fuel - t.fuel) * g.total
 
--- the registers of names that are not written stay
+-- the registers that are not changed stay
 abbrev pub Untouched : Ground → Moment → List ℕ → Type 0
-Untouched g m registers = (y : ℕ) → 3 ≤ y → g.touched y ≡ false → reads registers y ≡ reads m.machine.registers y
+Untouched g m registers = (y : ℕ) → y ≢ 2 → g.touched y ≡ false → reads registers y ≡ reads m.machine.registers y
 
 -- the run goes on, and the machine comes to word `end`
 pub record WentOn (g : Ground) (f : State → Run) (s : State) (m : Moment) (ram : List ℕ) (b end bulk : ℕ) : Type 0 where

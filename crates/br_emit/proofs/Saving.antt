@@ -4,7 +4,7 @@ use Rattle.std.specs.Prelude.{All, filter}
 use Rattle.std.proofs.lemmas.List.Elements.{All-nil, All-cons}
 use Rattle.br_flatimp.specs.declared.program.FlatFunc.{FlatFunc}
 use Rattle.br_flatimp.specs.Runs.{Forgets}
-use Rattle.br_emit.specs.Code.{count_up, registers, is_saved, saves}
+use Rattle.br_emit.specs.Code.{count_up, registers, is_saved, saves, touches, framed}
 use Rattle.br_emit.specs.Registers.{has}
 
 -- one register or none
@@ -32,7 +32,7 @@ one_most : (b : Bool) (r : ℕ) → length (one_if b r) ≤ 1
 one_most true r = omega arith
 one_most false r = omega arith
 
-pub keep_few : (b : Bool) (found found' : List ℕ) (r : ℕ) → found' ≡ found ++ one_if b r → length found + 3 ≤ r → length found' + 3 ≤ r + 1
+pub keep_few : (b : Bool) (found found' : List ℕ) (r : ℕ) → found' ≡ found ++ one_if b r → length found + 2 ≤ r → length found' + 2 ≤ r + 1
 keep_few b found found' r new few =
     let size = ap length new ∙ length-append found (one_if b r) in
     let one = one_most b r in
@@ -71,3 +71,17 @@ saves_few forgets n f = filter_most (is_saved forgets n f) registers
 -- the registers of a set that are the ones to save
 pub saves_from : (set : ℕ) (forgets : Forgets) (n : ℕ) (f : FlatFunc) → ((r : ℕ) → r < 32 → has set r ≡ is_saved forgets n f r) → filter (has set) registers ≡ saves forgets n f
 saves_from set forgets n f same = filter_same (has set) (is_saved forgets n f) 3 29 (λ r inside. same r inside)
+
+pub framed_few : (near : Bool) (forgets : Forgets) (n : ℕ) (f : FlatFunc) → length (framed near forgets n f) ≤ 30
+framed_few near forgets n f = by (touches near forgets f 1) (saves_few forgets n f)
+  where
+    by : (t : Bool) → length (saves forgets n f) ≤ 29 → length (if t then 1 ∷ saves forgets n f else saves forgets n f) ≤ 30
+    by true h = omega arith
+    by false h = omega arith
+
+pub framed_small : (near : Bool) (forgets : Forgets) (n : ℕ) (f : FlatFunc) → All (λ r. r < 32) (framed near forgets n f)
+framed_small near forgets n f = by (touches near forgets f 1) (saves_small forgets n f)
+  where
+    by : (t : Bool) → All (λ r. r < 32) (saves forgets n f) → All (λ r. r < 32) (if t then 1 ∷ saves forgets n f else saves forgets n f)
+    by true h = All-cons (λ r. r < 32) 1 (saves forgets n f) (omega arith) h
+    by false h = h

@@ -89,14 +89,14 @@ good_of code registers ram answers j ready =
     let is = ready.is in
     record { few = is.code; all = is.registers; whole = is.ram; holds = ready.holds }
 
--- ---- code that sets a register, and no other but x1
+-- ---- code that sets a register, and no other
 
 pub record Sets (g : Ground) (j k : ℕ) (registers ram answers : List ℕ) (trace : List Event) (x v n : ℕ) : Type 0 where
   pub registers' : List ℕ
   pub good : Good g.code registers' ram
   pub runs : Runs g.low n (at g.code j registers ram answers trace) (at g.code (j + k) registers' ram answers trace)
   pub value : reads registers' x ≡ v
-  pub others : (y : ℕ) → y ≢ x → y ≢ 1 → reads registers' y ≡ reads registers y
+  pub others : (y : ℕ) → y ≢ x → reads registers' y ≡ reads registers y
 
 -- one setting after another of the same register
 pub sets_again : (g : Ground) (j k i : ℕ) (registers ram answers : List ℕ) (trace : List Event) (x v w n l : ℕ)
@@ -110,7 +110,7 @@ sets_again g j k i registers ram answers trace x v w n l first second =
       runs = subst (λ q. Runs g.low (n + l) (at g.code j registers ram answers trace) (at g.code q second.registers' ram answers trace)) same
           (runs-append g.low n l _ _ _ first.runs second.runs);
       value = second.value;
-      others = λ y ne one. second.others y ne one ∙ first.others y ne one;
+      others = λ y ne. second.others y ne ∙ first.others y ne;
     }
 
 -- one instruction
@@ -125,7 +125,7 @@ one_sets g j registers ram answers trace i x v good ne small step =
       good = Good-put g.code registers ram x v good;
       runs = runs_one g.low _ _ step;
       value = reads-put_same x v registers ne (omega arith);
-      others = λ y other one. reads-put_other x y v registers other;
+      others = λ y other. reads-put_other x y v registers other;
     }
 
 pub imm_sets : (g : Ground) (j : ℕ) (registers ram answers : List ℕ) (trace : List Event) (op : ImmOp) (x y a : ℕ) (imm : ℤ)

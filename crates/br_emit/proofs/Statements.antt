@@ -1,5 +1,5 @@
 -- Statements and lists of them, in code: the induction over their parts.
-use Rattle.std.proofs.Common.{◌≡◌, ℕ, ◌+◌, ◌%◌, ◌≤◌, ◌==◌, ◌&&◌, max, Bool, true, IsTrue, List, [], ◌∷◌, ◌++◌, map, length, sum, refl, sym, subst, ◌∙◌, arith}
+use Rattle.std.proofs.Common.{false, ◌||◌, ◌≡◌, ℕ, ◌+◌, ◌%◌, ◌≤◌, ◌==◌, ◌&&◌, max, Bool, true, IsTrue, List, [], ◌∷◌, ◌++◌, map, length, sum, refl, sym, subst, ◌∙◌, arith}
 use Rattle.std.specs.List.{list_all, fold}
 use Rattle.std.proofs.lemmas.Bool.Decides.{nat_tests}
 use Rattle.br_bytes.specs.Runs.{Goes, in_turn}
@@ -103,24 +103,30 @@ LayerClaim g targets forgets call fs z =
     (let nests = map-Stmt Stmt ℕ statement_nest z in own_bytes nests + largest (map largest (parts nests)))
     (let bulks = map-Stmt Stmt ℕ statement_bulk z in own_words bulks + sum (map sum (parts bulks)))
 
-record Fine (writes reads passes values touches calls parts : Bool) : Type 0 where
+record Fine (writes reads passes values touches calls link parts : Bool) : Type 0 where
   written : IsTrue writes
   readable : IsTrue reads
   passing : IsTrue passes
   fitting : IsTrue values
   touching : IsTrue touches
   calling : IsTrue calls
+  linking : IsTrue link
   inside : IsTrue parts
 
-fine : (a b c d e f p : Bool) → IsTrue (((((a && b && c) && d) && e) && f) && p) → Fine a b c d e f p
-fine a b c d e f p h =
-    let h1 = both ((((a && b && c) && d) && e) && f) p h in
+fine : (a b c d e f l p : Bool) → IsTrue ((((((a && b && c) && d) && e) && f) && l) && p) → Fine a b c d e f l p
+fine a b c d e f l p h =
+    let h0 = both (((((a && b && c) && d) && e) && f) && l) p h in
+    let h1 = both ((((a && b && c) && d) && e) && f) l h0.0 in
     let h2 = both (((a && b && c) && d) && e) f h1.0 in
     let h3 = both ((a && b && c) && d) e h2.0 in
     let h4 = both (a && b && c) d h3.0 in
     let h5 = both (a && b) c h4.0 in
     let h6 = both a b h5.0 in
-    record { written = h6.0; readable = h6.1; passing = h5.1; fitting = h4.1; touching = h3.1; calling = h2.1; inside = h1.1 }
+    record { written = h6.0; readable = h6.1; passing = h5.1; fitting = h4.1; touching = h3.1; calling = h2.1; linking = h1.1; inside = h0.1 }
+
+pub or_false : (b : Bool) → IsTrue (b || false) → b ≡ true
+or_false true h = refl
+or_false false h = absurd (cc)
 
 -- the one name that is written
 one_touched : (g : Ground) (x : ℕ) → IsTrue (list_all g.touched (x ∷ [])) → Touches g x
@@ -129,33 +135,33 @@ one_touched g x h = (both (g.touched x) true h).0
 layer : (g : Ground) (targets : Targets) (forgets : Forgets) (call : Callee) (fs : List FlatFunc) → CallSimulates g targets forgets call fs
     → (y : Stmt-F (Claimed g targets forgets call fs)) → LayerClaim g targets forgets call fs (map-Stmt (Claimed g targets forgets call fs) Stmt (λ e. e.0) y)
 layer g targets forgets call fs calls (Stmt-F.Lit x n) ok room =
-    let f = fine (are_registers (x ∷ [])) true true true (list_all g.touched (x ∷ [])) true true ok in
+    let f = fine (are_registers (x ∷ [])) true true true (list_all g.touched (x ∷ [])) true _ true ok in
     lit_simulates g targets forgets call x n f.written (one_touched g x f.touching)
 layer g targets forgets call fs calls (Stmt-F.Copy x y) ok room =
-    let f = fine (are_registers (x ∷ [])) (are_registers (y ∷ [])) true true (list_all g.touched (x ∷ [])) true true ok in
+    let f = fine (are_registers (x ∷ [])) (are_registers (y ∷ [])) true true (list_all g.touched (x ∷ [])) true _ true ok in
     copy_simulates g targets forgets call x y f.written (one_touched g x f.touching) f.readable
 layer g targets forgets call fs calls (Stmt-F.Op x o y z) ok room =
-    let f = fine (are_registers (x ∷ [])) _ true _ (list_all g.touched (x ∷ [])) true true ok in
+    let f = fine (are_registers (x ∷ [])) _ true _ (list_all g.touched (x ∷ [])) true _ true ok in
     op_simulates g targets forgets call x o y z f.written (one_touched g x f.touching) f.readable f.fitting
 layer g targets forgets call fs calls (Stmt-F.Load x size y offset) ok room =
-    let f = fine (are_registers (x ∷ [])) (are_registers (y ∷ [])) true _ (list_all g.touched (x ∷ [])) true true ok in
+    let f = fine (are_registers (x ∷ [])) (are_registers (y ∷ [])) true _ (list_all g.touched (x ∷ [])) true _ true ok in
     load_simulates g targets forgets call x size y offset f.written (one_touched g x f.touching) f.readable
 layer g targets forgets call fs calls (Stmt-F.Store size y z offset) ok room =
-    let f = fine true (are_registers (y ∷ z ∷ [])) true _ true true true ok in
+    let f = fine true (are_registers (y ∷ z ∷ [])) true _ true true _ true ok in
     store_simulates g targets forgets call size y z offset f.readable
 layer g targets forgets call fs calls (Stmt-F.Table x size bytes y) ok room =
-    let f = fine (are_registers (x ∷ [])) (are_registers (y ∷ [])) true true (list_all g.touched (x ∷ [])) true true ok in
+    let f = fine (are_registers (x ∷ [])) (are_registers (y ∷ [])) true true (list_all g.touched (x ∷ [])) true _ true ok in
     simulates_wider g (statement_step forgets call (Stmt-F.Table x size bytes y)) (statement_items targets (Stmt-F.Table x size bytes y)) 0 0 (4 + words_for (length bytes)) (4 + words_for (length bytes) + 0) (omega arith) (omega arith)
-    (table_simulates g targets forgets call x size bytes y f.written (one_touched g x f.touching) f.readable)
+    (table_simulates g targets forgets call x size bytes y f.written (one_touched g x f.touching) (or_false (g.touched 1) f.linking) f.readable)
 layer g targets forgets call fs calls (Stmt-F.Stackalloc x n body) ok room =
-    let f = fine (are_registers (x ∷ [])) true true (n % 4 == 0) (list_all g.touched (x ∷ [])) true _ ok in
+    let f = fine (are_registers (x ∷ [])) true true (n % 4 == 0) (list_all g.touched (x ∷ [])) true _ _ ok in
     let inner = both _ true f.inside in
     let fours : n % 4 ≡ 0 = (let h = f.fitting in grind (arith, nat_tests)) in
     let part = each_simulates g targets forgets call fs body inner.0 (omega arith) in
     simulates_wider g _ _ _ _ _ _ (omega arith) (omega arith)
     (buffer_simulates g x n (in_turn (map (run forgets call) (map (λ e. e.0) body))) (in_turn_items (map (items_of targets) (map (λ e. e.0) body))) _ _ f.written (one_touched g x f.touching) fours part)
 layer g targets forgets call fs calls (Stmt-F.If test first second) ok room =
-    let f = fine true _ true true true true _ ok in
+    let f = fine true _ true true true true _ _ ok in
     let inner = both _ _ f.inside in
     let more = both _ true inner.1 in
     let part1 = each_simulates g targets forgets call fs first inner.0 (omega arith) in
@@ -164,7 +170,7 @@ layer g targets forgets call fs calls (Stmt-F.If test first second) ok room =
     (if_simulates g test (in_turn (map (run forgets call) (map (λ e. e.0) first))) (in_turn (map (run forgets call) (map (λ e. e.0) second)))
     (in_turn_items (map (items_of targets) (map (λ e. e.0) first))) (in_turn_items (map (items_of targets) (map (λ e. e.0) second))) _ _ _ _ f.readable part1 part2)
 layer g targets forgets call fs calls (Stmt-F.Loop first test last) ok room =
-    let f = fine true _ true true true true _ ok in
+    let f = fine true _ true true true true _ _ ok in
     let inner = both _ _ f.inside in
     let more = both _ true inner.1 in
     let part1 = each_simulates g targets forgets call fs first inner.0 (omega arith) in
@@ -174,10 +180,10 @@ layer g targets forgets call fs calls (Stmt-F.Loop first test last) ok room =
     (in_turn_items (map (items_of targets) (map (λ e. e.0) first))) (in_turn_items (map (items_of targets) (map (λ e. e.0) last))) _ _ _ _ f.readable part1 part2 (omega arith))
 layer g targets forgets call fs calls (Stmt-F.Call xs h ys) ok room = calls xs ys h (both _ true ok).0
 layer g targets forgets call fs calls (Stmt-F.Read x y) ok room =
-    let f = fine (are_registers (x ∷ [])) (are_registers (y ∷ [])) true true (list_all g.touched (x ∷ [])) true true ok in
+    let f = fine (are_registers (x ∷ [])) (are_registers (y ∷ [])) true true (list_all g.touched (x ∷ [])) true _ true ok in
     read_simulates g targets forgets call x y f.written (one_touched g x f.touching) f.readable
 layer g targets forgets call fs calls (Stmt-F.Write y z) ok room =
-    let f = fine true (are_registers (y ∷ z ∷ [])) true true true true true ok in
+    let f = fine true (are_registers (y ∷ z ∷ [])) true true true true _ true ok in
     write_simulates g targets forgets call y z f.readable
 
 -- ---- all statements

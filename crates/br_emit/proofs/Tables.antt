@@ -1,5 +1,5 @@
 -- Tables of bytes, in code.
-use Rattle.std.proofs.Common.{◌≡◌, inl, inr, ℕ, zero, suc, ◌+◌, ◌-◌, ◌*◌, ◌%◌, ◌^◌, ◌<◌, ◌≤◌, nat_le, if◌then◌else◌, List, [], ◌∷◌, ◌++◌, length, take, drop, drop-cons, Option, Some, None, Bool, true, false, IsTrue, refl, sym, ap, subst, ◌∙◌, arith, pos, length-append}
+use Rattle.std.proofs.Common.{◌≢◌, ◌≡◌, inl, inr, ℕ, zero, suc, ◌+◌, ◌-◌, ◌*◌, ◌%◌, ◌^◌, ◌<◌, ◌≤◌, nat_le, if◌then◌else◌, List, [], ◌∷◌, ◌++◌, length, take, drop, drop-cons, Option, Some, None, Bool, true, false, IsTrue, refl, sym, ap, subst, ◌∙◌, arith, pos, length-append}
 use Rattle.std.specs.Prelude.{slice_index}
 use Rattle.std.proofs.lemmas.Bool.Decides.{nat_tests}
 use Rattle.br_words.specs.declared.size.Size.{Size}
@@ -23,12 +23,12 @@ use Rattle.br_machine.specs.Steps.{Runs}
 use Rattle.br_machine.specs.Start.{code_bytes}
 use Rattle.br_emit.specs.Code.{Item, Does, Raw, load_op, over_items, table_words, table_items, statement_items, Targets}
 use Rattle.br_emit.proofs.Stepping.{at, Good, reads, code_bytes-at, ram-code}
-use Rattle.br_emit.proofs.Pieces.{Ground, Placed, placed-front, placed-back, runs-append, Shown, Simulates, given}
+use Rattle.br_emit.proofs.Pieces.{other_rests, Rests, Ground, Placed, placed-front, placed-back, runs-append, Shown, Simulates, given}
 use Rattle.br_emit.proofs.Setting.{reg_sets, good_of}
 use Rattle.br_emit.proofs.Operations.{SetsWithin}
-use Rattle.br_emit.proofs.Leaves.{IsName, Touches, first_name, nonzero, name_value, sets_on, wrong_at_once}
+use Rattle.br_emit.proofs.Leaves.{sets_with_link, IsName, Touches, first_name, nonzero, name_value, sets_on, wrong_at_once}
 use Rattle.br_emit.proofs.Accesses.{load_sets, load_size_is, loaded_is, some_bytes}
-use Rattle.br_emit.proofs.Jumping.{over_jumps}
+use Rattle.br_emit.proofs.Jumping.{over_jumps, rests_not}
 use Rattle.br_emit.proofs.Control.{placed_within}
 
 -- ---- the bytes in code
@@ -86,10 +86,19 @@ read_bytes (suc n) i p ram bytes room same =
 
 -- ---- reads of a table
 
+-- some steps set a register, and change no other but x1
+record TableSets (g : Ground) (j k : ℕ) (registers ram answers : List ℕ) (trace : List Event) (x v limit : ℕ) : Type 0 where
+  steps : ℕ
+  few : steps ≤ limit
+  registers' : List ℕ
+  runs : Runs g.low steps (at g.code j registers ram answers trace) (at g.code (j + k) registers' ram answers trace)
+  value : reads registers' x ≡ v
+  others : (y : ℕ) → y ≢ x → Rests g y → reads registers' y ≡ reads registers y
+
 table_sets : (g : Ground) (j : ℕ) (registers ram answers : List ℕ) (trace : List Event) (x : ℕ) (size : Size) (bytes : List ℕ) (y i : ℕ)
-    → Good g.code registers ram → Placed g.code j (table_items x size bytes y) → IsName x → IsName y → reads registers y ≡ i → i + size_of size ≤ length bytes
-    → SetsWithin g j (length (table_items x size bytes y)) registers ram answers trace x (number_of (take (size_of size) (drop i bytes))) 4
-table_sets g j registers ram answers trace x size bytes y i good placed name name' is room =
+    → g.touched 1 ≡ true → Good g.code registers ram → Placed g.code j (table_items x size bytes y) → IsName x → IsName y → reads registers y ≡ i → i + size_of size ≤ length bytes
+    → TableSets g j (length (table_items x size bytes y)) registers ram answers trace x (number_of (take (size_of size) (drop i bytes))) 4
+table_sets g j registers ram answers trace x size bytes y i links good placed name name' is room =
     let words = table_words bytes in
     let n = length words in
     let over = over_items 1 n in
@@ -102,13 +111,13 @@ table_sets g j registers ram answers trace x size bytes y i good placed name nam
     let to = start + n in
     let few = good.few in
     let end = last_inside g.code to (Does (Load (load_op size) x 1 (pos 0))) (Does (Reg Add 1 1 y)) p2 in
-    let jump = over_jumps g j n 1 registers ram answers trace good p0 (inr refl) (omega arith) in
+    let jump = over_jumps g j n 1 registers ram answers trace good p0 (inr (refl, links)) (omega arith) in
     let m = jump.moves in
     let low' = name'.low in
     let low = name.low in
     let base = 0x80300000 + 4 * start in
     let one : reads m.registers' 1 ≡ base = jump.link_is refl in
-    let offset : reads m.registers' y ≡ i = m.others y (omega arith) ∙ is in
+    let offset : reads m.registers' y ≡ i = m.others y (other_rests g y (omega arith)) ∙ is in
     let sum = reg_sets g to m.registers' ram answers trace Add 1 1 y base i m.good p2.0 p2.1 (omega arith) one offset in
     let long = table_length bytes in
     let a = base + i in
@@ -134,22 +143,19 @@ table_sets g j registers ram answers trace x size bytes y i good placed name nam
     record {
       steps = m.steps + (1 + 1);
       few = omega arith;
-      sets = record {
-        registers' = load.registers';
-        good = load.good;
-        runs = subst (λ q. Runs g.low (m.steps + (1 + 1)) (at g.code j registers ram answers trace) (at g.code q load.registers' ram answers trace)) end_is (runs-append g.low m.steps (1 + 1) _ _ _ m.runs (runs-append g.low 1 1 _ _ _ sum.runs load.runs));
-        value = load.value ∙ loaded_value;
-        others = λ q ne ne1. load.others q ne ne1 ∙ sum.others q ne1 ne1 ∙ m.others q ne1;
-      };
+      registers' = load.registers';
+      runs = subst (λ q. Runs g.low (m.steps + (1 + 1)) (at g.code j registers ram answers trace) (at g.code q load.registers' ram answers trace)) end_is (runs-append g.low m.steps (1 + 1) _ _ _ m.runs (runs-append g.low 1 1 _ _ _ sum.runs load.runs));
+      value = load.value ∙ loaded_value;
+      others = λ q ne rests. load.others q ne ∙ sum.others q (rests_not g q links rests) ∙ m.others q rests;
     }
   where
     last_inside : (code : List ℕ) (p : ℕ) (last first : Item) → Placed code p (first ∷ last ∷ []) → p + 2 ≤ length code
     last_inside code p last first placed = elim (placed_within code p (first ∷ last ∷ []) placed) [ inl e ↦ absurd (cc) | inr l ↦ l ]
 
 pub table_simulates : (g : Ground) (targets : Targets) (forgets : Forgets) (call : Callee) (x : ℕ) (size : Size) (bytes : List ℕ) (y : ℕ)
-    → IsTrue (are_registers (x ∷ [])) → Touches g x → IsTrue (are_registers (y ∷ []))
+    → IsTrue (are_registers (x ∷ [])) → Touches g x → Touches g 1 → IsTrue (are_registers (y ∷ []))
     → Simulates g (statement_step forgets call (Stmt-F.Table x size bytes y)) (statement_items targets (Stmt-F.Table x size bytes y)) 0 (4 + words_for (length bytes))
-table_simulates g targets forgets call x size bytes y named touches named' free j s registers ram room multiple inside deep placed ready stands = by (s.locals y) refl
+table_simulates g targets forgets call x size bytes y named touches links named' free j s registers ram room multiple inside deep placed ready stands = by (s.locals y) refl
   where
     goes : (o : Option ℕ) → s.locals y ≡ o → (rest : List Choice)
         → statement_step forgets call (Stmt-F.Table x size bytes y) (given s rest) ≡ with_defined o (given s rest) (λ i. with_defined (table_number bytes i (size_of size)) (given s rest) (λ v. Goes (set_to x v (given s rest))))
@@ -163,11 +169,11 @@ table_simulates g targets forgets call x size bytes y named touches named' free 
         let name = (first_name x [] named).0 in
         let name' = (first_name y [] named').0 in
         let fits : i + size_of size ≤ length bytes = grind (arith, nat_tests) in
-        let sets = table_sets g j registers ram s.answers s.trace x size bytes y i (good_of g.code registers ram s.answers j ready) placed name name' (name_value s (g.sp + free) g.sp registers ram y i stands name' e) fits in
+        let sets = table_sets g j registers ram s.answers s.trace x size bytes y i links (good_of g.code registers ram s.answers j ready) placed name name' (name_value s (g.sp + free) g.sp registers ram y i stands name' e) fits in
         let few = sets.few in
-        sets_on g (statement_step forgets call (Stmt-F.Table x size bytes y)) s registers ram (g.sp + free) j (length (table_items x size bytes y)) x (number_of (take (size_of size) (drop i bytes))) (4 + words_for (length bytes))
+        sets_with_link g (statement_step forgets call (Stmt-F.Table x size bytes y)) s registers ram (g.sp + free) j (length (table_items x size bytes y)) x (number_of (take (size_of size) (drop i bytes))) (4 + words_for (length bytes))
         (λ rest. goes (Some i) e rest ∙ ap (λ t. with_defined (if t then Some (number_of (take (size_of size) (drop i bytes))) else None) (given s rest) (λ v. Goes (set_to x v (given s rest)))) h) name touches ready stands
-        (record { steps = sets.steps; few = omega arith; sets = sets.sets })
+        sets.registers' sets.steps (omega arith) sets.runs sets.value sets.others
 
     by : (o : Option ℕ) → s.locals y ≡ o
         → Shown g (statement_step forgets call (Stmt-F.Table x size bytes y)) s (at g.code j registers ram s.answers s.trace) ram (g.sp + free) (j + length (table_items x size bytes y)) (4 + words_for (length bytes))

@@ -16,9 +16,9 @@ use Rattle.br_rv32im.specs.declared.instruction.Ins.TheVariants.{Imm, Reg, Ecall
 use Rattle.br_rv32im.specs.declared.instruction.ImmOp.TheVariants.{Addi}
 use Rattle.std.specs.Prelude.{pos}
 use Rattle.br_rv32im.specs.declared.instruction.RegOp.TheVariants.{Add}
-use Rattle.br_emit.specs.Code.{Does, Targets, low_part, constant_items, copy_items, op_items, is_short, place_items, saves, save_items, restore_items, move_items, exit_items, saved_bytes, all_items, callable_items, entry_items, stack_items, direct_items, call_items, is_called, function_items, program_items, places}
+use Rattle.br_emit.specs.Code.{Does, Targets, low_part, constant_items, copy_items, op_items, is_short, place_items, framed, framed_bytes, save_items, restore_items, move_items, exit_items, all_items, callable_items, entry_items, stack_items, direct_items, call_items, is_called, function_items, program_items, places}
 use Rattle.br_emit.specs.Sizes.{call_words, jump_words, over_words, skip_words, back_words, if_head_words, if_middle_words, loop_head_words, Sized, sized_of_words, sized_in_turn, sized_if, sized_loop, statement_sized, sized, sized_all, callable_words, direct_words, function_words, begins, program_words}
-use Rattle.br_emit.proofs.Saving.{saves_few}
+use Rattle.br_emit.proofs.Saving.{framed_few}
 use Rattle.br_emit.proofs.Sizing.{call_length, all_words_are}
 
 fold_from : (a : ℕ) (xs : List ℕ) → fold ◌+◌ a xs ≡ a + sum xs
@@ -246,18 +246,22 @@ restore_length i (r ∷ rs) = let rest = restore_length (i + 1) rs in omega arit
 
 pub callable_length : (targets : Targets) (forgets : Forgets) (n : ℕ) (f : FlatFunc) → length (callable_items targets forgets n f) ≡ callable_words targets.near forgets n f
 callable_length targets forgets n f =
-    let rs = saves forgets n f in
-    let bytes = saved_bytes forgets n f in
+    let rs = framed targets.near forgets n f in
+    let bytes = framed_bytes targets.near forgets n f in
+    let first = move_items ((2 ^ 32 - bytes) % 2 ^ 32) in
     let down = move_items ((2 ^ 32 - nest f) % 2 ^ 32) in
     let body = all_items targets f.body (nest f) in
     let up = move_items (nest f) in
-    let s1 = length-append (save_items 0 (1 ∷ rs)) (down ++ (body ++ (up ++ (restore_items 1 rs ++ exit_items bytes)))) in
-    let s2 = length-append down (body ++ (up ++ (restore_items 1 rs ++ exit_items bytes))) in
-    let s3 = length-append body (up ++ (restore_items 1 rs ++ exit_items bytes)) in
-    let s4 = length-append up (restore_items 1 rs ++ exit_items bytes) in
-    let s5 = length-append (restore_items 1 rs) (exit_items bytes) in
-    let save = save_length 0 (1 ∷ rs) in
-    let restore = restore_length 1 rs in
+    let last = move_items bytes in
+    let s0 = length-append first (save_items 0 rs ++ (down ++ (body ++ (up ++ (restore_items 0 rs ++ (last ++ exit_items)))))) in
+    let s1 = length-append (save_items 0 rs) (down ++ (body ++ (up ++ (restore_items 0 rs ++ (last ++ exit_items))))) in
+    let s2 = length-append down (body ++ (up ++ (restore_items 0 rs ++ (last ++ exit_items)))) in
+    let s3 = length-append body (up ++ (restore_items 0 rs ++ (last ++ exit_items))) in
+    let s4 = length-append up (restore_items 0 rs ++ (last ++ exit_items)) in
+    let s5 = length-append (restore_items 0 rs) (last ++ exit_items) in
+    let s6 = length-append last exit_items in
+    let save = save_length 0 rs in
+    let restore = restore_length 0 rs in
     let words = all_words_are targets f.body (nest f) in
     omega arith
 
@@ -291,8 +295,10 @@ program_length targets forgets fs n (f ∷ rest) =
 
 pub callable_most : (near : Bool) (forgets : Forgets) (n : ℕ) (f : FlatFunc) → callable_words near forgets n f + (2 + call_words near) ≤ function_bulk f
 callable_most near forgets n f =
-    let few = saves_few forgets n f in
+    let few = framed_few near forgets n f in
     let call = call_most near in
+    let first = move_most ((2 ^ 32 - framed_bytes near forgets n f) % 2 ^ 32) in
+    let last = move_most (framed_bytes near forgets n f) in
     let within = all_within near f.body (nest f) in
     let words = within.words in
     let down = move_most ((2 ^ 32 - nest f) % 2 ^ 32) in

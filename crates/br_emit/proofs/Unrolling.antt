@@ -15,7 +15,7 @@ use Rattle.br_flatimp.specs.Sizes.{own_bytes, statement_nest, largest}
 use Rattle.br_flatimp.specs.WellFormed.{are_registers}
 use Rattle.br_rv32im.specs.declared.instruction.Ins.TheVariants.{Load, Reg}
 use Rattle.br_rv32im.specs.declared.instruction.RegOp.TheVariants.{Add}
-use Rattle.br_emit.specs.Code.{Item, Does, AllFit, Targets, branching, load_op, over_items, table_words, table_items, place_items, if_items, loop_items, statement_items, items_of, all_items}
+use Rattle.br_emit.specs.Code.{keeps_link, Item, Does, AllFit, Targets, branching, load_op, over_items, table_words, table_items, place_items, if_items, loop_items, statement_items, items_of, all_items}
 use Rattle.br_emit.specs.Sizes.{Sized, statement_sized, sized, sized_all, sized_if, sized_loop}
 use Rattle.br_emit.specs.Buffer.{Written, appended}
 use Rattle.br_emit.specs.Ready.{Ready, HasRegisters, is_encodable}
@@ -108,6 +108,42 @@ test_registers (NonZero x) h = record { left = register_of x (and_true (nat_le 3
 test_registers (Compare r x y) h =
     let k = and_parts (nat_le 3 x && nat_le x 31) (are_registers (y ∷ [])) h in
     record { left = register_of x k.0; right = register_of y (and_true (nat_le 3 y && nat_le y 31) k.1) }
+
+-- ---- whether x1 is left as it was
+
+pub kept_next : (body : List Stmt) (i : ℕ) (x : Stmt) (kept : Bool) → i < length body → x ≡ get_or body i x
+    → ((kept && throughout keeps_link x) && list_all (throughout keeps_link) (drop (i + 1) body)) ≡ (kept && list_all (throughout keeps_link) (drop i body))
+kept_next body i x kept inside is =
+    assoc kept (throughout keeps_link x) (list_all (throughout keeps_link) (drop (i + 1) body))
+    ∙ ap (λ b. kept && list_all (throughout keeps_link) b) (sym (drop_next body i x inside is))
+  where
+    assoc : (a b c : Bool) → ((a && b) && c) ≡ (a && (b && c))
+    assoc true b c = refl
+    assoc false b c = refl
+
+and_one : (a : Bool) → (a && true) ≡ a
+and_one true = refl
+and_one false = refl
+
+pub kept_buffer : (s : Stmt) (x n : ℕ) (body : List Stmt) → s ≡ stmt.Stackalloc x n body → throughout keeps_link s ≡ list_all (throughout keeps_link) body
+kept_buffer s x n body is =
+    ap (throughout keeps_link) (is ∙ sym (stmt.rolls-Stackalloc x n body)) ∙ fold-roll-Stmt Bool (λ y. keeps_link y && list_all (list_all (λ ok. ok)) (parts y)) (Stmt-F.Stackalloc x n body)
+    ∙ and_one (list_all (λ ok. ok) (map (throughout keeps_link) body)) ∙ oks_map (throughout keeps_link) body
+
+kept_both : (first second : List Stmt) → (list_all (λ ok. ok) (map (throughout keeps_link) first) && (list_all (λ ok. ok) (map (throughout keeps_link) second) && true)) ≡ (list_all (throughout keeps_link) first && list_all (throughout keeps_link) second)
+kept_both first second =
+    ap (λ b. list_all (λ ok. ok) (map (throughout keeps_link) first) && b) (and_one (list_all (λ ok. ok) (map (throughout keeps_link) second)) ∙ oks_map (throughout keeps_link) second)
+    ∙ ap (λ b. b && list_all (throughout keeps_link) second) (oks_map (throughout keeps_link) first)
+
+pub kept_if : (s : Stmt) (test : Cond) (first second : List Stmt) → s ≡ stmt.If test first second → throughout keeps_link s ≡ (list_all (throughout keeps_link) first && list_all (throughout keeps_link) second)
+kept_if s test first second is =
+    ap (throughout keeps_link) (is ∙ sym (stmt.rolls-If test first second)) ∙ fold-roll-Stmt Bool (λ y. keeps_link y && list_all (list_all (λ ok. ok)) (parts y)) (Stmt-F.If test first second)
+    ∙ kept_both first second
+
+pub kept_loop : (s : Stmt) (first : List Stmt) (test : Cond) (last : List Stmt) → s ≡ stmt.Loop first test last → throughout keeps_link s ≡ (list_all (throughout keeps_link) first && list_all (throughout keeps_link) last)
+kept_loop s first test last is =
+    ap (throughout keeps_link) (is ∙ sym (stmt.rolls-Loop first test last)) ∙ fold-roll-Stmt Bool (λ y. keeps_link y && list_all (list_all (λ ok. ok)) (parts y)) (Stmt-F.Loop first test last)
+    ∙ kept_both first last
 
 pub record BufferParts (targets : Targets) (x n : ℕ) (body : List Stmt) (free : ℕ) (w : Written) (l : List ℕ) : Type 0 where
   pub register : x < 32

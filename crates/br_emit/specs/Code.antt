@@ -1,7 +1,8 @@
 -- The code of flat statements in register form: the name n is the register n, x2 is the stack pointer, and x1
--- is used where a jump is far and for the address of a table. Code does not depend on where it stands.
-use Rattle.std.specs.Prelude.{not, filter, ℕ, zero, suc, ◌+◌, ◌-◌, ◌*◌, ◌/◌, ◌%◌, ◌^◌, ◌<◌, nat_lt, nat_le, ◌==◌, ◌&&◌, ◌||◌, if◌then◌else◌, Bool, ℤ, pos, negsuc, List, [], ◌∷◌, ◌++◌, length, map}
-use Rattle.std.specs.List.{flat_map, list_any}
+-- is used by calls, where a jump is far, and for the address of a table. Items do not depend on where they stand: only
+-- the word of a near call does.
+use Rattle.std.specs.Prelude.{not, true, false, filter, ℕ, zero, suc, ◌+◌, ◌-◌, ◌*◌, ◌/◌, ◌%◌, ◌^◌, ◌<◌, nat_lt, nat_le, ◌==◌, ◌&&◌, ◌||◌, if◌then◌else◌, Bool, ℤ, pos, negsuc, List, [], ◌∷◌, ◌++◌, length, map}
+use Rattle.std.specs.List.{flat_map, list_all, list_any}
 use Rattle.br_words.specs.declared.layout.Layout.TheVariants as layout
 use Rattle.br_words.specs.Layout.{code_base, stack_end}
 use Rattle.br_words.specs.declared.operation.BinOp.{BinOp}
@@ -21,7 +22,7 @@ use Rattle.br_flatimp.specs.declared.program.Stmt.TheOpen.{Stmt-F}
 use Rattle.br_flatimp.specs.declared.program.Stmt.TheFolds.{fold-Stmt}
 use Rattle.br_flatimp.specs.declared.program.FlatFunc.{FlatFunc}
 use Rattle.br_flatimp.specs.Values.{Names}
-use Rattle.br_flatimp.specs.Parts.{written, gathered, callees}
+use Rattle.br_flatimp.specs.Parts.{written, gathered, callees, throughout}
 use Rattle.br_flatimp.specs.Liveness.{is_in}
 use Rattle.br_flatimp.specs.Sizes.{nest}
 use Rattle.br_flatimp.specs.Runs.{Forgets}
@@ -325,6 +326,29 @@ registers = count_up 3 29
 abbrev pub changes : Forgets → FlatFunc → Names
 changes forgets f x = is_in (written_names f) x || list_any (λ g. forgets g x) (callees f)
 
+-- a statement that leaves x1 as it was, its parts and far jumps aside
+abbrev pub keeps_link : {X : Type 0} → Stmt-F X → Bool
+keeps_link (Stmt-F.Table x size bytes y) = false
+keeps_link (Stmt-F.Call xs g ys) = false
+keeps_link (Stmt-F.Lit x n) = true
+keeps_link (Stmt-F.Copy x y) = true
+keeps_link (Stmt-F.Op x o y z) = true
+keeps_link (Stmt-F.Load x size y offset) = true
+keeps_link (Stmt-F.Store size y z offset) = true
+keeps_link (Stmt-F.Stackalloc x n body) = true
+keeps_link (Stmt-F.If test first second) = true
+keeps_link (Stmt-F.Loop first test last) = true
+keeps_link (Stmt-F.Read x y) = true
+keeps_link (Stmt-F.Write y z) = true
+
+-- a function whose code may change x1: for a table, a call, a far jump, or buffers that no immediate says
+abbrev pub links : Bool → FlatFunc → Bool
+links near f = not near || (not (list_all (throughout keeps_link) f.body) || nat_lt 2047 (nest f))
+
+-- the registers that a function may change while it runs, x1 among them
+abbrev pub touches : Bool → Forgets → FlatFunc → Names
+touches near forgets f x = changes forgets f x || ((x == 1) && links near f)
+
 -- a register that the function numbered n has to leave as it was: it changes, is no result, and callers may miss it
 abbrev pub is_saved : Forgets → ℕ → FlatFunc → ℕ → Bool
 is_saved forgets n f x = changes forgets f x && not (is_in f.results x) && not (forgets n x)
@@ -349,26 +373,32 @@ move_items n =
     else if is_short n then Does (Imm Addi 2 2 (low_part n)) ∷ []
     else constant_items 1 n ++ Does (Reg Add 2 2 1) ∷ []
 
--- the bytes of what a function saves: the return address, and registers
-abbrev pub saved_bytes : Forgets → ℕ → FlatFunc → ℕ
-saved_bytes forgets n f = 4 * (1 + length (saves forgets n f))
+-- the registers that the frame of a function has words for: x1 where the function may change it, and those that it
+-- has to leave as they were
+abbrev pub framed : Bool → Forgets → ℕ → FlatFunc → List ℕ
+framed near forgets n f = if touches near forgets f 1 then 1 ∷ saves forgets n f else saves forgets n f
 
--- the return address is restored, the stack pointer moves up, and the caller goes on
-abbrev pub exit_items : ℕ → List Item
-exit_items n = Does (Load Lw 1 2 (pos 0)) ∷ Does (Imm Addi 2 2 (pos n)) ∷ Does (Jalr 0 1 (pos 0)) ∷ []
+-- the bytes of a frame
+abbrev pub framed_bytes : Bool → Forgets → ℕ → FlatFunc → ℕ
+framed_bytes near forgets n f = 4 * length (framed near forgets n f)
+
+-- the caller goes on
+abbrev pub exit_items : List Item
+exit_items = Does (Jalr 0 1 (pos 0)) ∷ []
 
 -- A function that is called: it makes room on the stack and saves, makes room for its buffers, runs, and goes
--- the same way back.
+-- the same way back. What it has no need of takes no word.
 abbrev pub callable_items : Targets → Forgets → ℕ → FlatFunc → List Item
 callable_items targets forgets n f =
-    let rs = saves forgets n f
-    in let bytes = saved_bytes forgets n f
-    in Does (Imm Addi 2 2 (negsuc (bytes - 1)))
-    ∷ (save_items 0 (1 ∷ rs)
+    let rs = framed targets.near forgets n f
+    in let bytes = framed_bytes targets.near forgets n f
+    in move_items ((2 ^ 32 - bytes) % 2 ^ 32)
+    ++ (save_items 0 rs
     ++ (move_items ((2 ^ 32 - nest f) % 2 ^ 32)
     ++ (all_items targets f.body (nest f)
     ++ (move_items (nest f)
-    ++ (restore_items 1 rs ++ exit_items bytes)))))
+    ++ (restore_items 0 rs
+    ++ (move_items bytes ++ exit_items))))))
 
 -- an entry whose function is called: it sets the stack pointer to the end of the stack region, and calls it
 abbrev pub entry_items : Bool → ℕ → List Item

@@ -1,5 +1,5 @@
 -- Flat programs as they stand in code, and what the machine shows of their entries.
-use Rattle.std.specs.Prelude.{◌≡◌, ◌⊎◌, ℕ, ◌+◌, ◌*◌, ◌%◌, ◌≤◌, ◌&&◌, nat_le, Bool, true, IsTrue, List, [], ◌∷◌, length, map, sum, Option, Some, None, slice_get}
+use Rattle.std.specs.Prelude.{◌≡◌, ◌⊎◌, ℕ, ◌+◌, ◌*◌, ◌%◌, ◌<◌, ◌≤◌, ◌&&◌, ◌||◌, nat_le, Bool, true, IsTrue, List, [], ◌∷◌, length, map, sum, Option, Some, None, slice_get}
 use Rattle.std.specs.List.{list_all}
 use Rattle.br_words.specs.declared.layout.Layout.TheVariants.{Two}
 use Rattle.br_words.specs.Layout.{code_base, stack_base, most_words}
@@ -18,18 +18,18 @@ use Rattle.br_flatimp.specs.Renaming.{ReadsNoForgotten}
 use Rattle.br_flatimp.specs.Runs.{Forgets, call_forgetting, call}
 use Rattle.br_machine.specs.Start.{Leftover, IsLeftover, IsInData, start}
 use Rattle.br_emit.specs.Reaches.{Reaches}
-use Rattle.br_emit.specs.Code.{Item, item_word, words_at, ItemFits, AllFit, Targets, changes, saved_bytes, callable_items, program_items, places, entry_place}
+use Rattle.br_emit.specs.Code.{Item, item_word, words_at, ItemFits, AllFit, Targets, keeps_link, touches, framed_bytes, callable_items, program_items, places, entry_place}
 
 -- items stand in code from word j on, and fit
 abbrev pub Placed : List ℕ → ℕ → List Item → Type 0
 Placed code j [] = Unit {0}
 Placed code j (i ∷ is) = (slice_get code j ≡ Some (item_word j i)) × ItemFits i × Placed code (j + 1) is
 
--- a statement of a program in register form, its parts aside: it writes names of a set, and calls functions of
--- a set
+-- a statement of a program in register form, its parts aside: it writes names of a set, calls functions of a set,
+-- and changes x1 only where that is in the set
 abbrev pub is_fine : {X : Type 0} → List FlatFunc → (ℕ → Bool) → (ℕ → Bool) → Stmt-F X → Bool
 is_fine fs touched called y =
-    uses_registers y && values_fit fs y && list_all touched (written y) && list_all called (own_callees y)
+    uses_registers y && values_fit fs y && list_all touched (written y) && list_all called (own_callees y) && (touched 1 || keeps_link y)
 
 -- the functions that a function may call: its callees, where what they need is at most a limit
 abbrev pub may_call : FlatFunc → (ℕ → ℕ) → ℕ → ℕ → Bool
@@ -42,9 +42,9 @@ pub record Function (code : List ℕ) (fs : List FlatFunc) (targets : Targets) (
   pub few_args : length f.args ≤ 8
   pub results : IsTrue (is_passing f.results)
   pub few_results : length f.results ≤ 8
-  pub body : IsTrue (list_all (throughout (is_fine fs (changes forgets f) (may_call f need (limit n)))) f.body)
+  pub body : IsTrue (list_all (throughout (is_fine fs (touches targets.near forgets f) (may_call f need (limit n)))) f.body)
   pub bulk : 80 + sum (map statement_bulk f.body) ≤ total
-  pub needs : saved_bytes forgets n f + nest f + limit n ≤ need n
+  pub needs : framed_bytes targets.near forgets n f + nest f + limit n ≤ need n
   pub fours : nest f % 4 ≡ 0
   pub calls : (g : ℕ) → is_in (callees f) g ≡ true → called g ≡ true
   pub placed : called n ≡ true → (place : ℕ) × (targets.at n ≡ code_base Two + 4 * place) × Placed code place (callable_items targets forgets n f)
@@ -64,7 +64,7 @@ pub record Laid : Type 0 where
   pub low : ℕ
   pub total : ℕ
   pub bottom : stack_base ≤ low
-  pub reach : targets.near ≡ true → length code ≤ 262144
+  pub reach : targets.near ≡ true → length code < 262144
   pub functions : (n : ℕ) (f : FlatFunc) → slice_get fs n ≡ Some f → Function code fs targets forgets called need limit total n f
 
 -- what is shown of a call from outside: it is undefined with some choices, or the machine shows it
@@ -101,10 +101,10 @@ pub record IsCodeOf (fs : List FlatFunc) (targets : Targets) (forgets : Forgets)
   pub items : code ≡ words_at 0 (program_items targets forgets fs 0 fs)
   pub fit : AllFit (program_items targets forgets fs 0 fs)
   pub few : length code ≤ most_words Two
-  pub reach : targets.near ≡ true → length code ≤ 262144
+  pub reach : targets.near ≡ true → length code < 262144
   pub dead : ReadsNoForgotten forgets fs
   pub aimed : (n place : ℕ) → slice_get (places targets forgets fs 0 0 fs) n ≡ Some place → targets.at n ≡ code_base Two + 4 * place
-  pub needs : (n : ℕ) (f : FlatFunc) → slice_get fs n ≡ Some f → saved_bytes forgets n f + nest f + callee_need fs need n ≤ need n
+  pub needs : (n : ℕ) (f : FlatFunc) → slice_get fs n ≡ Some f → framed_bytes targets.near forgets n f + nest f + callee_need fs need n ≤ need n
 
 -- An entry shows each call of its function: for all arguments, memory, answers, leftover contents and fuel,
 -- within the flat bulk of the program in steps for each unit of fuel and one more.

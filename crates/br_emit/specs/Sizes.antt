@@ -9,7 +9,7 @@ use Rattle.br_flatimp.specs.Sizes.{words_for, nest}
 use Rattle.br_flatimp.specs.Runs.{Forgets}
 use Rattle.br_rv32im.specs.declared.instruction.Ins.TheVariants.{Imm}
 use Rattle.br_rv32im.specs.declared.instruction.ImmOp.TheVariants.{Addi}
-use Rattle.br_emit.specs.Code.{Item, Branching, otherwise, constant_items, copy_items, op_items, place_items, over_items, skip_items, saves, save_items, restore_items, move_items, exit_items, stack_items, all_items, Does, Targets}
+use Rattle.br_emit.specs.Code.{Item, Branching, otherwise, constant_items, copy_items, op_items, place_items, over_items, skip_items, framed, framed_bytes, save_items, restore_items, move_items, exit_items, stack_items, all_items, Does, Targets}
 
 -- ---- pieces
 
@@ -120,22 +120,25 @@ IsFront xs ys = xs ++ drop (length xs) ys ≡ ys
 
 -- ---- functions
 
--- the code of a function that is called, by the registers that it saves, the bytes of its buffers, the way that
--- the stack pointer moves for them, and the bytes of what it saves
-abbrev pub framed_items : Targets → List ℕ → List Stmt → ℕ → ℕ → ℕ → List Item
-framed_items targets rs body buffers down bytes =
-    Does (Imm Addi 2 2 (negsuc (bytes - 1)))
-    ∷ (save_items 0 (1 ∷ rs)
-    ++ (move_items down
+-- the code of a function that is called, by the registers in its frame, the bytes of its buffers, and how the stack
+-- pointer moves for the frame and for the buffers
+abbrev pub framed_items : Targets → List ℕ → List Stmt → ℕ → ℕ → ℕ → ℕ → List Item
+framed_items targets rs body buffers down bytes up =
+    move_items down
+    ++ (save_items 0 rs
+    ++ (move_items bytes
     ++ (all_items targets body buffers
     ++ (move_items buffers
-    ++ (restore_items 1 rs ++ exit_items bytes)))))
+    ++ (restore_items 0 rs
+    ++ (move_items up ++ exit_items))))))
 
 -- the words of the code of the function numbered n, where it is called, and its entry comes after it
 abbrev pub callable_words : Bool → Forgets → ℕ → FlatFunc → ℕ
 callable_words near forgets n f =
-    2 * length (saves forgets n f) + length (move_items ((2 ^ 32 - nest f) % 2 ^ 32)) + (sized_all near f.body (nest f)).words
-    + length (move_items (nest f)) + 5
+    let bytes = framed_bytes near forgets n f
+    in length (move_items ((2 ^ 32 - bytes) % 2 ^ 32)) + 2 * length (framed near forgets n f)
+    + length (move_items ((2 ^ 32 - nest f) % 2 ^ 32)) + (sized_all near f.body (nest f)).words + length (move_items (nest f))
+    + length (move_items bytes) + 1
 
 -- the words of the code of a function that nobody calls
 abbrev pub direct_words : Bool → FlatFunc → ℕ

@@ -1,5 +1,5 @@
 -- Functions in code, one after another.
-use Rattle.std.specs.Prelude.{◌≡◌, ℕ, ◌+◌, ◌*◌, ◌<◌, ◌≤◌, nat_le, if◌then◌else◌, Bool, false, IsTrue, List, [], ◌∷◌, ◌++◌, length, map, get_or}
+use Rattle.std.specs.Prelude.{◌≡◌, ℕ, ◌+◌, ◌*◌, ◌<◌, ◌≤◌, nat_lt, if◌then◌else◌, Bool, false, IsTrue, List, [], ◌∷◌, ◌++◌, length, map, get_or}
 use Rattle.std.specs.List.{AllByRecursion, list_all}
 use Rattle.br_words.specs.declared.layout.Layout.TheVariants.{Two}
 use Rattle.br_words.specs.Layout.{most_words}
@@ -38,7 +38,7 @@ offset_of place = 4 * place
 
 -- a program whose code is in the reach of JAL from each of its words
 abbrev pub is_near_program : List FlatFunc → Bool
-is_near_program fs = nat_le (flat_bulk fs) 262144
+is_near_program fs = nat_lt (flat_bulk fs) 262144
 
 -- the addresses at which the functions of a program stand
 abbrev pub addresses : Forgets → List FlatFunc → List ℕ

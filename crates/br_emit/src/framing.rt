@@ -77,26 +77,12 @@ pub fn move_words(n: u32) -> u32
     }
 }
 
-/// Makes room for what a function saves.
-pub fn open(code: &mut Code, bytes: u32)
-    requires room { 1 ≤ code.old.room }
-    requires some { 1 ≤ bytes }
-    requires few { bytes ≤ 160 }
-    ensures code { code.new ≡ appended code.old (Does (Imm Addi 2 2 (negsuc (bytes - 1))) ∷ []) }
-    ensures fit { AllFit (Does (Imm Addi 2 2 (negsuc (bytes - 1))) ∷ []) }
+/// The caller goes on.
+pub fn exit(code: &mut Code)
+    requires { 1 ≤ code.old.room }
+    ensures code { code.new ≡ appended code.old exit_items }
+    ensures fit { AllFit exit_items }
 {
-    code.put(Ins::Imm(ImmOp::Addi, STACK_POINTER, STACK_POINTER, -(bytes as i32)));
-}
-
-/// Restores the return address, gives the room of what was saved back, and returns.
-pub fn exit(code: &mut Code, bytes: u32)
-    requires room { 3 ≤ code.old.room }
-    requires few { bytes ≤ 160 }
-    ensures code { code.new ≡ appended code.old (exit_items bytes) }
-    ensures fit { AllFit (exit_items bytes) }
-{
-    code.put(Ins::Load(LoadOp::Lw, RETURN_ADDRESS, STACK_POINTER, 0));
-    code.put(Ins::Imm(ImmOp::Addi, STACK_POINTER, STACK_POINTER, bytes as i32));
     code.put(Ins::Jalr(ZERO, RETURN_ADDRESS, 0));
 }
 

@@ -13,10 +13,10 @@ ghost use Rattle.br_emit.specs.Registers.{forgets_of};
 ghost use Rattle.br_emit.specs.Ready.{Ready, InReach, is_encodable, aimed};
 
 use crate::code::Code;
-use crate::framing::{exit, move_stack, move_words, open, restore, save};
+use crate::framing::{exit, move_stack, move_words, restore, save};
 use crate::measuring::{constant_words, measure_all};
 use crate::numbers::{Left, Numbers};
-use crate::registers::saved;
+use crate::registers::framed;
 use crate::straight::constant;
 use crate::targets::Targets;
 use crate::writing::write_all;
@@ -24,9 +24,7 @@ use br_flatimp::{FlatFunc, Stmt};
 use br_rv32im::Ins;
 use br_words::STACK_END;
 
-// The registers of the calling conventions: the return address and the stack pointer.
-const RETURN_ADDRESS: u32 = 1;
-
+// The stack pointer (RISC-V calling conventions, integer register convention).
 const STACK_POINTER: u32 = 2;
 
 /// The largest sum of the sizes of buffers nested in one another in statements.
@@ -72,7 +70,7 @@ fn nest_of(s: &Stmt) -> u32
 }
 
 /// The words of the code of the function numbered n, where it is called, up to its entry.
-#[tactic(auto, using(crate::proofs::Saving::saves_few))]
+#[tactic(auto, using(crate::proofs::Saving::framed_few))]
 pub fn callable_words(
     lengths: &mut Numbers,
     near: bool,
@@ -87,9 +85,11 @@ pub fn callable_words(
     ensures lengths { lengths.new ≡ noted lengths.old (sized_all near f.now.body (nest f.now)).parts }
 {
     let nest = nest_all(f.body.as_slice());
-    let saved = saved(sets, n, f).as_slice().len() as u32;
+    let count = framed(near, sets, n, f).as_slice().len() as u32;
+    let bytes = 4 * count;
+    let frame = move_words(0u32.wrapping_sub(bytes)) + 2 * count + move_words(bytes);
     let body = measure_all(lengths, near, f.body.as_slice(), nest);
-    2 * saved + move_words(0u32.wrapping_sub(nest)) + body + move_words(nest) + 5
+    frame + move_words(0u32.wrapping_sub(nest)) + body + move_words(nest) + 1
 }
 
 /// The words of the code of a function that nobody calls.
@@ -122,24 +122,26 @@ pub fn callable(
     ensures fit { AllFit (callable_items (aimed targets.now) (forgets_of sets.now) n f.now) }
 {
     let nest = nest_all(f.body.as_slice());
-    let saved = saved(sets, n, f);
-    let bytes = 4 * (1 + saved.as_slice().len() as u32);
-    let down = 0u32.wrapping_sub(nest);
-    framed(
+    let rs = framed(targets.near(), sets, n, f);
+    let bytes = 4 * rs.as_slice().len() as u32;
+    let down = 0u32.wrapping_sub(bytes);
+    let room = 0u32.wrapping_sub(nest);
+    with_frame(
         code,
         targets,
         lengths,
         f.body.as_slice(),
-        saved.as_slice(),
+        rs.as_slice(),
         nest,
         down,
+        room,
         bytes,
     );
 }
 
-// The code of a function that is called, by the registers that it saves, the bytes of its buffers, the way
-// that the stack pointer moves for them, and the bytes of what it saves.
-fn framed(
+// The code of a function that is called, by the registers in its frame, the bytes of its buffers, and how
+// the stack pointer moves for the frame and for the buffers.
+fn with_frame(
     code: &mut Code,
     targets: &Targets,
     lengths: &[u32],
@@ -147,25 +149,25 @@ fn framed(
     rs: &[u32],
     buffers: u32,
     down: u32,
-    bytes: u32,
+    room: u32,
+    up: u32,
 )
     requires registers { All (λ r. r < 32) rs.now }
-    requires count { length rs.now ≤ 29 }
-    requires bytes { bytes ≡ 4 * (1 + length rs.now) }
+    requires count { length rs.now ≤ 30 }
     requires targets { (g : ℕ) → InReach ((aimed targets.now).at g) }
     requires form { IsTrue (list_all (throughout is_encodable) body.now) }
-    requires ready { Ready (framed_items (aimed targets.now) rs.now body.now buffers down bytes) (sized_all targets.now.near body.now buffers).parts code.old lengths.now }
-    ensures code { code.new ≡ appended code.old (framed_items (aimed targets.now) rs.now body.now buffers down bytes) }
-    ensures fit { AllFit (framed_items (aimed targets.now) rs.now body.now buffers down bytes) }
+    requires ready { Ready (framed_items (aimed targets.now) rs.now body.now buffers down room up) (sized_all targets.now.near body.now buffers).parts code.old lengths.now }
+    ensures code { code.new ≡ appended code.old (framed_items (aimed targets.now) rs.now body.now buffers down room up) }
+    ensures fit { AllFit (framed_items (aimed targets.now) rs.now body.now buffers down room up) }
 {
-    open(code, bytes);
-    save(code, 0, &[RETURN_ADDRESS]);
-    save(code, 1, rs);
     move_stack(code, down);
+    save(code, 0, rs);
+    move_stack(code, room);
     write_all(code, targets, &mut Left::new(lengths), body, buffers);
     move_stack(code, buffers);
-    restore(code, 1, rs);
-    exit(code, bytes);
+    restore(code, 0, rs);
+    move_stack(code, up);
+    exit(code);
 }
 
 /// The code of a function that nobody calls, given the lengths of the parts in it.

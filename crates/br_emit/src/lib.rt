@@ -20,6 +20,7 @@ mod framing;
 mod functions;
 mod jumps;
 mod laws;
+mod linking;
 mod measuring;
 mod numbers;
 mod places;

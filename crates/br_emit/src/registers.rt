@@ -1,13 +1,18 @@
 // The registers that a function has to leave as they were.
 
-ghost use Rattle.std.specs.Prelude.{◌≡◌, ◌++◌, ◌∷◌, [], ℕ, ◌<◌, filter, if◌then◌else◌, length};
-ghost use Rattle.br_emit.specs.Code.{registers, saves};
+ghost use Rattle.std.specs.Prelude.{◌≡◌, ◌++◌, ◌∷◌, [], ℕ, ◌<◌, ◌≤◌, ◌||◌, filter, if◌then◌else◌, length};
+ghost use Rattle.br_flatimp.specs.Sizes.{nest};
+ghost use Rattle.br_emit.specs.Code.{framed, is_saved, registers};
 ghost use Rattle.br_emit.specs.Registers.{forgets_of, has};
 
 use crate::changing::changed_by_all;
+use crate::linking::links;
 use crate::sets::{all_of, contains, set_at, without};
 use br_flatimp::FlatFunc;
 use std::marker::Model;
+
+// The register of return addresses.
+const RETURN_ADDRESS: u32 = 1;
 
 /// At most 32 registers in order. Contracts see the list of them.
 #[derive(Drop)]
@@ -54,21 +59,50 @@ impl Registers {
     }
 }
 
-/// The registers from 3 to 31 that a function or a callee changes, that are not its results, and that
-/// its callers may miss, by what calls may change.
-pub fn saved(sets: &[u32], n: usize, f: &FlatFunc) -> Registers
-    ensures { result ≡ saves (forgets_of sets.now) n f.now }
+/// The registers in the frame of a function: x1 where its code may change it, and those from 3 to 31 that
+/// the function or a callee changes, that are not its results, and that its callers may miss. What calls
+/// may change is given, and whether the whole code is near.
+pub fn framed(near: bool, sets: &[u32], n: usize, f: &FlatFunc) -> Registers
+    requires { nest f.now ≤ 1048576 }
+    ensures { result ≡ framed near (forgets_of sets.now) n f.now }
+{
+    let changes = contains(changed_by_all(sets, f.body.as_slice()), RETURN_ADDRESS);
+    let own = links(near, f);
+    in_order(first(either(changes, own)), saved(sets, n, f))
+}
+
+/// The registers that a function has to leave as they were, as a set.
+pub fn saved(sets: &[u32], n: usize, f: &FlatFunc) -> u32
+    ensures { (r : ℕ) → r < 32 → has result r ≡ is_saved (forgets_of sets.now) n f.now r }
 {
     let changed = changed_by_all(sets, f.body.as_slice());
     let kept = without(changed, all_of(f.results.as_slice()));
-    in_order(without(kept, set_at(sets, n)))
+    without(kept, set_at(sets, n))
 }
 
-// The registers of a set from 3 to 31, in order.
-fn in_order(set: u32) -> Registers
-    ensures { result ≡ filter (has set) registers }
+fn either(a: bool, b: bool) -> bool
+    ensures { result ≡ (a || b) }
+{
+    a || b
+}
+
+// x1, or no register.
+fn first(link: bool) -> Registers
+    ensures { result ≡ (if link then 1 ∷ [] else []) }
 {
     let mut found = Registers::new();
+    if link {
+        found.push(RETURN_ADDRESS);
+    }
+    found
+}
+
+// The registers of a set from 3 to 31, in order, after others.
+fn in_order(before: Registers, set: u32) -> Registers
+    requires { length before ≤ 1 }
+    ensures { result ≡ before ++ filter (has set) registers }
+{
+    let mut found = before;
     for r in 3..32u32 {
         keep(&mut found, set, r);
     }

@@ -26,7 +26,7 @@ pub fn is_near_program(funcs: &[FlatFunc]) -> bool
     requires { flat_bulk funcs.now ≤ 1048576 }
     ensures { result ≡ is_near_program funcs.now }
 {
-    most_words(funcs) <= 262_144
+    most_words(funcs) < 262_144
 }
 
 // The most words of the code of statements.

@@ -6,6 +6,6 @@ use Rattle.br_emit.proofs.registers.in_order.Given as goal
 
 abbrev pub invariant-loop-r : goal.invariant-loop-r
 invariant-loop-r l = record {
-  found : l.found ++ filter (has l.set) (count_up l.r (32 - l.r)) ≡ filter (has l.set) registers;
-  few : length l.found + 3 ≤ l.r;
+  found : l.found ++ filter (has l.set) (count_up l.r (32 - l.r)) ≡ l.fn.before ++ filter (has l.set) registers;
+  few : length l.found + 2 ≤ l.r;
 }
