@@ -5,6 +5,8 @@
 #[cfg(test)]
 mod compiling;
 #[cfg(test)]
+mod dead_code;
+#[cfg(test)]
 mod flat_programs;
 #[cfg(test)]
 mod immediates;
