@@ -11,8 +11,11 @@ use std::alloc::Global;
 // How many names there are where each statement writes one of its own.
 const NAMES: u32 = 10_000;
 
-// How many statements there are in one straight run.
-const STRAIGHT: u32 = 32_768;
+// How many statements the largest functions have.
+const MOST: u32 = 32_768;
+
+// How many literals there are where each becomes a constant.
+const LITERALS: u32 = 16_383;
 
 // How many copies carry a value around a loop.
 const COPIES: u32 = 5_000;
@@ -20,8 +23,8 @@ const COPIES: u32 = 5_000;
 // How many of them there are where their names are used after the loop too.
 const COPIES_OF_USED: u32 = 1_000;
 
-// How deep loops stand in one another, and how many statements each of them has: with them there are as
-// many statements or copies as above.
+// How deep loops stand in one another, and how many statements each of them has: with them there
+// are as many statements or copies as above.
 const DEPTH: u32 = 250;
 
 const STATEMENTS: u32 = 39;
@@ -31,9 +34,11 @@ const NESTED_COPIES: u32 = 20;
 /// How many names a function of this kind has, and its body.
 pub(crate) fn body_of(alloc: Global, kind: &str) -> Result<Option<(u32, Items<Stmt>)>> {
     match kind.as_bytes() {
-        b"unneeded" => Ok(Some((NAMES, unneeded(alloc)?))),
+        b"unneeded" => Ok(Some((NAMES, unneeded(alloc, NAMES)?))),
         b"needed" => Ok(Some((NAMES, needed(alloc)?))),
+        b"wide" => Ok(Some((MOST, unneeded(alloc, MOST)?))),
         b"straight" => Ok(Some((3, straight(alloc)?))),
+        b"literals" => Ok(Some((LITERALS + 2, literals(alloc)?))),
         b"deep" => Ok(Some((DEPTH * STATEMENTS + 3, deep(alloc)?))),
         b"around" => Ok(Some((COPIES + 3, around(alloc)?))),
         b"nested" => Ok(Some((COPIES + 3, nested(alloc)?))),
@@ -57,10 +62,13 @@ fn again(alloc: Global, statements: Items<Stmt>) -> Result<Stmt> {
 }
 
 // Each name is one more than the one before. None but the result's is read at the end.
-fn unneeded(alloc: Global) -> Result<Items<Stmt>> {
+fn unneeded(alloc: Global, names: u32) -> Result<Items<Stmt>>
+    requires least { 0 < names }
+    requires most { names < 100000 }
+{
     let mut body = Items::new(alloc);
     body.push(Stmt::Copy(2, 0))?;
-    for x in 2..NAMES - 1 {
+    for x in 2..names - 1 {
         body.push(next(x))?;
     }
     body.push(Stmt::Lit(1, 0))?;
@@ -82,14 +90,28 @@ fn needed(alloc: Global) -> Result<Items<Stmt>> {
 fn straight(alloc: Global) -> Result<Items<Stmt>> {
     let mut body = Items::new(alloc);
     body.push(Stmt::Copy(2, 0))?;
-    for _ in 2..STRAIGHT {
+    for _ in 2..MOST {
         body.push(Stmt::Op(2, BinOp::Add, 2, Operand::Const(1)))?;
     }
     body.push(Stmt::Lit(1, 0))?;
     Ok(body)
 }
 
-// Each statement in the loops reads what the one before writes, and nothing reads what the last one does.
+// Literals set names of their own, and then each is added to the result.
+fn literals(alloc: Global) -> Result<Items<Stmt>> {
+    let mut body = Items::new(alloc);
+    for x in 2..LITERALS + 2 {
+        body.push(Stmt::Lit(x, 1))?;
+    }
+    body.push(Stmt::Copy(1, 0))?;
+    for x in 2..LITERALS + 2 {
+        body.push(Stmt::Op(1, BinOp::Add, 1, Operand::Name(x)))?;
+    }
+    Ok(body)
+}
+
+// Each statement in the loops reads what the one before writes, and
+// nothing reads what the last one does.
 fn deep(alloc: Global) -> Result<Items<Stmt>> {
     let mut body = Items::new(alloc);
     for loop_number in 0..DEPTH {

@@ -1,19 +1,17 @@
 //! How long `flatten` takes for the program of a text. The words are the number of times that it is
-//! tried, of which the least counts, and nothing is done without one; `bench/flatten` gives it. With 0
-//! the program is only read and checked.
+//! tried, of which the least counts, and nothing is done without one; `bench/flatten` gives it.
+//! With 0 the program is only read and checked.
 #![tactic(auto)]
 
 use anyhow::{Result, bail};
 use br_base::{StdSource, read_all};
 use br_flatten::flatten;
 use br_measure::{Checked, check};
-use br_sexpr::read;
+use br_sexpr::{MOST_BYTES, read};
 use br_syntax::from_tree;
 use std::alloc::Global;
 use std::env;
 use std::time::CpuClock;
-
-const MOST_BYTES: usize = 1_048_576;
 
 fn main(rt: HostRuntime) -> Result<()> {
     let Some(word) = env::args(&rt)?.nth(1) else {

@@ -1,5 +1,5 @@
-//! How many names a program has, how many registers are proposed for them, and how long that takes. Only
-//! with the word `time` does it read a source text and write a line; `bench/names` gives it.
+//! How many names a program has, how many registers are proposed for them, and how long that takes.
+//! Only with the word `time` does it read a source text and write a line; `bench/names` gives it.
 #![tactic(auto)]
 
 ghost use Rattle.std.specs.Prelude.{IfOk};
@@ -13,14 +13,12 @@ use br_flatten::flatten;
 use br_immediates::use_immediates;
 use br_measure::{Checked, check};
 use br_regalloc_propose::propose_registers;
-use br_sexpr::read;
+use br_sexpr::{MOST_BYTES, read};
 use br_spill::pass_in_registers;
 use br_syntax::from_tree;
 use std::alloc::Global;
 use std::env;
 use std::time::{CpuClock, Duration};
-
-const MOST_BYTES: usize = 1_048_576;
 
 fn main(rt: HostRuntime) -> Result<()> {
     let Some(word) = env::args(&rt)?.nth(1) else {
@@ -35,9 +33,9 @@ fn main(rt: HostRuntime) -> Result<()> {
     measure(&rt, &text)
 }
 
-/// Writes for a text how many functions it has, the most names of one of them, the most registers that
-/// are proposed for one, and the microseconds that it takes to propose all. A function that keeps its
-/// names, since they do not suffice, has no register.
+/// Writes for a text how many functions it has, the most names of one of them, the most registers
+/// that are proposed for one, and the microseconds that it takes to propose all. A function that
+/// keeps its names, since they do not suffice, has no register.
 fn measure(rt: &(impl Print + CpuClock + AllocGlobal), text: &[u8]) -> Result<()> {
     let small = small_program(rt.alloc(), text)?;
     let functions = small.funcs.len();

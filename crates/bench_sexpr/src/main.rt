@@ -3,14 +3,12 @@
 #![tactic(auto)]
 
 use anyhow::{Result, bail};
-use br_sexpr::{print, read};
+use br_sexpr::{MOST_BYTES, print, read};
 use std::alloc::{AllocError, Global};
 use std::env;
 use std::time::{CpuClock, Duration};
 
-const SIZES: [usize; 4] = [16_384, 65_536, 262_144, 1_048_576];
-
-const LARGEST: usize = 1_048_576;
+const SIZES: [usize; 4] = [16_384, 65_536, 262_144, MOST_BYTES];
 
 const RUNS: usize = 9;
 
@@ -56,7 +54,7 @@ fn measure(rt: &(impl Print + CpuClock + AllocGlobal), kind: &str, text: &[u8]) 
 }
 
 fn run(rt: &(impl CpuClock + AllocGlobal), text: &[u8]) -> Result<(u128, u128)> {
-    if text.len() > LARGEST {
+    if text.len() > MOST_BYTES {
         bail!("the text is too long");
     }
     let begun = rt.process_cpu_time()?;

@@ -30,10 +30,11 @@ pub record Store : Type 0 where
   -- the writes that failed so far
   pub faults : ℕ
 
--- the number of the call behind this one; the last number stays
+-- the number of the call after this one; the last number stays
 abbrev pub next_call : ℕ → ℕ
 next_call call = min (call + 1) last_count
 
--- a write of a piece of this length fails: its number is one of those that do, or the room is used up
+-- a write of a piece of this length fails: its number is one of
+-- those that do, or the room is used up
 abbrev pub WriteFails : Store → ℕ → Type 0
 WriteFails s len = Contains s.failing s.calls ⊎ ((0 < len) × (s.room ≤ length s.held))

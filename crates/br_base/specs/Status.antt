@@ -1,7 +1,8 @@
 -- The exit status of the program.
 use Rattle.std.specs.Prelude.{ℕ}
 use Rattle.br_base.specs.declared.status.Status.{Status}
-use Rattle.br_base.specs.declared.status.Status.TheVariants.{Done, Refused, Usage, ReadFault, WriteFault, NoMemory}
+use Rattle.br_base.specs.declared.status.Status.TheVariants.{Done, Refused, Usage, ReadFault}
+use Rattle.br_base.specs.declared.status.Status.TheVariants.{WriteFault, NoMemory}
 
 -- the number that stands for a status
 abbrev pub code_of : Status → ℕ

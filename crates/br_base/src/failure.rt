@@ -41,7 +41,8 @@ impl<F> OrMemory<F> {
     pub fn map<G, M: FnOnce(F) -> G>(self, make: M) -> OrMemory<G>
         requires { IfFault self (M.pre make) }
         ensures memory { self ≡ Memory → result ≡ Memory }
-        ensures fault { IfFault self (λ fault. (made : _) × M.post make fault made × (result ≡ Fault made)) }
+        ensures fault { IfFault self
+            (λ fault. (made : _) × M.post make fault made × (result ≡ Fault made)) }
     {
         match self {
             OrMemory::Memory => OrMemory::Memory,

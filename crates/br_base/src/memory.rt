@@ -1,6 +1,7 @@
 // Ends in memory, which fail where they are told to.
 
-ghost use Rattle.std.specs.Prelude.{◌≡◌, ℕ, ◌+◌, ◌-◌, ◌≤◌, ◌<◌, ◌++◌, List, [], length, take, drop, min, IfOk, OnOk, OnErr, IsErr, Contains, ◌↔◌, Some};
+ghost use Rattle.std.specs.Prelude.{◌≡◌, ℕ, ◌+◌, ◌-◌, ◌≤◌, ◌<◌, ◌++◌, List, [], length, take};
+ghost use Rattle.std.specs.Prelude.{drop, min, IfOk, OnOk, OnErr, IsErr, Contains, ◌↔◌, Some};
 ghost use Rattle.std.specs.Io.KnownBytes.{Appends, Consumes, IsAtEnd, Keeps};
 ghost use Rattle.br_base.specs.Ends.{Rose, last_count};
 ghost use Rattle.br_base.specs.Memory.{next_call, WriteFails};
@@ -28,7 +29,13 @@ impl Model for MemSource {
 
     ghost Value = { Supply };
 
-    ghost view = { λ s. record { left = drop s.next s.bytes.items; most = s.most; failing = s.failing.items; calls = s.calls; faults = s.faults } };
+    ghost view = { λ s. record {
+      left = drop s.next s.bytes.items;
+      most = s.most;
+      failing = s.failing.items;
+      calls = s.calls;
+      faults = s.faults;
+    } };
 
     ghost invariant = { λ s. (s.next ≤ length s.bytes.items) × (0 < s.most) };
 }
@@ -38,7 +45,13 @@ impl MemSource {
     /// numbered from 0, and those whose numbers stand in `failing` fail.
     pub fn new(bytes: Vec<u8>, most: usize, failing: Vec<u64>) -> MemSource
         requires { 0 < most }
-        ensures { result ≡ record { left = bytes.items; most = most; failing = failing.items; calls = 0; faults = 0 } }
+        ensures { result ≡ record {
+          left = bytes.items;
+          most = most;
+          failing = failing.items;
+          calls = 0;
+          faults = 0;
+        } }
     {
         MemSource {
             bytes,
@@ -58,10 +71,15 @@ impl Source for MemSource {
 
     fn read(&mut self, buf: &mut [u8]) -> Result<usize, Failed>
         ensures fails { IsErr result ↔ Contains self.old.failing self.old.calls }
-        ensures moved { IfOk result (λ n. n ≡ min self.old.most (min (length buf.old) (length self.old.left))) }
+        ensures moved { IfOk result
+            (λ n. n ≡ min self.old.most (min (length buf.old) (length self.old.left))) }
         ensures given { IfOk result (λ n. buf.new ≡ take n self.old.left ++ drop n buf.old) }
-        ensures ok { IfOk result (λ n. self.new ≡ record self.old { left = drop n self.old.left; calls = next_call self.old.calls }) }
-        ensures err { OnErr result (self.new ≡ record self.old { calls = next_call self.old.calls; faults = min (self.old.faults + 1) last_count }) }
+        ensures ok { IfOk result (λ n. self.new
+            ≡ record self.old { left = drop n self.old.left; calls = next_call self.old.calls }) }
+        ensures err { OnErr result (self.new ≡ record self.old {
+          calls = next_call self.old.calls;
+          faults = min (self.old.faults + 1) last_count;
+        }) }
         ensures unwritten { OnErr result (buf.new ≡ buf.old) }
 
         ensures end { IfOk result (λ n. n ≡ 0 → 0 < length buf.new → self.new.left ≡ []) }
@@ -101,9 +119,17 @@ impl Model for MemSink {
 
     ghost Value = { Store };
 
-    ghost view = { λ s. record { held = s.held.items; room = s.room; most = s.most; failing = s.failing.items; calls = s.calls; faults = s.faults } };
+    ghost view = { λ s. record {
+      held = s.held.items;
+      room = s.room;
+      most = s.most;
+      failing = s.failing.items;
+      calls = s.calls;
+      faults = s.faults;
+    } };
 
-    ghost invariant = { λ s. (length s.held.items ≤ s.room) × (s.room ≤ vec_capacity s.held) × (0 < s.most) };
+    ghost invariant = { λ s. (length s.held.items ≤ s.room) × (s.room ≤ vec_capacity s.held)
+        × (0 < s.most) };
 }
 
 impl MemSink {
@@ -117,7 +143,14 @@ impl MemSink {
         failing: Vec<u64>,
     ) -> Result<MemSink, NoMemory>
         requires { 0 < most }
-        ensures { IfOk result (λ s. s ≡ record { held = []; room = room; most = most; failing = failing.items; calls = 0; faults = 0 }) }
+        ensures { IfOk result (λ s. s ≡ record {
+          held = [];
+          room = room;
+          most = most;
+          failing = failing.items;
+          calls = 0;
+          faults = 0;
+        }) }
     {
         Ok(MemSink {
             held: Vec::with_capacity(alloc, room)?,
@@ -144,9 +177,17 @@ impl Sink for MemSink {
 
     fn write(&mut self, piece: &[u8]) -> Result<usize, Failed>
         ensures fails { IsErr result ↔ WriteFails self.old (length piece.now) }
-        ensures moved { IfOk result (λ n. n ≡ min self.old.most (min (length piece.now) (self.old.room - length self.old.held))) }
-        ensures ok { IfOk result (λ n. self.new ≡ record self.old { held = self.old.held ++ take n piece.now; calls = next_call self.old.calls }) }
-        ensures err { OnErr result (self.new ≡ record self.old { calls = next_call self.old.calls; faults = min (self.old.faults + 1) last_count }) }
+        ensures moved { IfOk result (λ n. n
+            ≡ min self.old.most (min (length piece.now) (self.old.room - length self.old.held))) }
+        ensures ok { IfOk result (λ n. self.new ≡ record self.old {
+          held = self.old.held
+              ++ take n piece.now;
+          calls = next_call self.old.calls;
+        }) }
+        ensures err { OnErr result (self.new ≡ record self.old {
+          calls = next_call self.old.calls;
+          faults = min (self.old.faults + 1) last_count;
+        }) }
 
         ensures some { IfOk result (λ n. 0 < length piece.now → 0 < n) }
         ensures sound { OnOk result (self.new.faults ≡ self.old.faults) }

@@ -68,7 +68,7 @@ pub fn starts_name(b: u8) -> bool
     b.is_ascii_alphabetic() || b == b'_'
 }
 
-/// Whether a byte may stand in a name behind its first.
+/// Whether a byte may stand in a name after its first.
 pub fn continues_name(b: u8) -> bool
     ensures { result ≡ continues_name b }
 {

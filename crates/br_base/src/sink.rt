@@ -1,6 +1,7 @@
 // Where the bytes of the program go to.
 
-ghost use Rattle.std.specs.Prelude.{◌≡◌, ℕ, ◌+◌, ◌≤◌, ◌<◌, List, [], Option, length, take, Ok, IfOk, OnOk, OnErr, IfSome};
+ghost use Rattle.std.specs.Prelude.{◌≡◌, ℕ, ◌+◌, ◌≤◌, ◌<◌, List, [], Option};
+ghost use Rattle.std.specs.Prelude.{length, take, Ok, IfOk, OnOk, OnErr, IfSome};
 ghost use Rattle.std.specs.Io.KnownBytes.{Appends, Keeps};
 ghost use Rattle.br_base.specs.Ends.{Rose, last_count, AppendsSome};
 
@@ -19,7 +20,8 @@ pub trait Sink {
     fn write(&mut self, piece: &[u8]) -> Result<usize, Failed>
         ensures fits { IfOk result (λ n. n ≤ length piece.now) }
         ensures some { IfOk result (λ n. 0 < length piece.now → 0 < n) }
-        ensures added { IfOk result (λ n. Appends (held self.old) (held self.new) (take n piece.now)) }
+        ensures added { IfOk result
+            (λ n. Appends (held self.old) (held self.new) (take n piece.now)) }
         ensures unchanged { OnErr result (Keeps (held self.old) (held self.new)) }
         ensures failed { OnErr result (Rose (faults self.old) (faults self.new)) }
         ensures sound { OnOk result (faults self.new ≡ faults self.old) }

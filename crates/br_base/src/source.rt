@@ -1,6 +1,7 @@
 // Where the bytes of the program come from.
 
-ghost use Rattle.std.specs.Prelude.{◌≡◌, ℕ, ◌+◌, ◌≤◌, ◌<◌, List, Option, length, take, IfOk, OnOk, OnErr, IfSome, IsErrOf, ◌≢◌};
+ghost use Rattle.std.specs.Prelude.{◌≡◌, ℕ, ◌+◌, ◌≤◌, ◌<◌, List, Option, length};
+ghost use Rattle.std.specs.Prelude.{take, IfOk, OnOk, OnErr, IfSome, IsErrOf, ◌≢◌};
 ghost use Rattle.std.specs.Io.KnownBytes.{Consumes, IsAtEnd, Keeps};
 ghost use Rattle.br_base.specs.Ends.{Rose, last_count, ConsumesMany, ConsumesAtMost};
 
@@ -19,7 +20,8 @@ pub trait Source {
     /// not empty is the end of the input. The count of faults rises with a failure alone.
     fn read(&mut self, buf: &mut [u8]) -> Result<usize, Failed>
         ensures fits { IfOk result (λ n. n ≤ length buf.new) }
-        ensures taken { IfOk result (λ n. Consumes (left self.old) (left self.new) (take n buf.new)) }
+        ensures taken { IfOk result
+            (λ n. Consumes (left self.old) (left self.new) (take n buf.new)) }
         ensures end { IfOk result (λ n. n ≡ 0 → 0 < length buf.new → IsAtEnd (left self.new)) }
         ensures untaken { OnErr result (Keeps (left self.old) (left self.new)) }
         ensures failed { OnErr result (Rose (faults self.old) (faults self.new)) }
@@ -59,20 +61,25 @@ impl From<AllocError> for ReadEnd {
     }
 }
 
-/// How many bytes a read is offered at most.
+// How many bytes a read is offered at most.
 const CHUNK: usize = 4096;
 
 /// All bytes up to the end, if there are at most `limit`. `TooLong` comes once byte number
 /// `limit + 1` was read, and nothing is read after it. `Failed` comes at the first read that fails,
 /// which is then the last. `Memory` may come at any moment.
 pub fn read_all<S: Source>(alloc: Global, input: &mut S, limit: usize) -> Result<Vec<u8>, ReadEnd>
-    ensures bytes { IfOk result (λ bytes. Consumes (S.left input.old) (S.left input.new) bytes.items) }
+    ensures bytes { IfOk result
+        (λ bytes. Consumes (S.left input.old) (S.left input.new) bytes.items) }
     ensures end { OnOk result (IsAtEnd (S.left input.new)) }
     ensures within { IfOk result (λ bytes. length bytes.items ≤ limit) }
-    ensures too_long { IsErrOf result ReadEnd.TooLong → ConsumesMany (S.left input.old) (S.left input.new) (limit + 1) }
-    ensures failed { IsErrOf result ReadEnd.Failed → Rose (S.faults input.old) (S.faults input.new) }
-    ensures failed_within { IsErrOf result ReadEnd.Failed → ConsumesAtMost (S.left input.old) (S.left input.new) limit }
-    ensures memory_within { IsErrOf result ReadEnd.Memory → ConsumesAtMost (S.left input.old) (S.left input.new) (limit + 1) }
+    ensures too_long { IsErrOf result ReadEnd.TooLong →
+        ConsumesMany (S.left input.old) (S.left input.new) (limit + 1) }
+    ensures failed { IsErrOf result ReadEnd.Failed →
+        Rose (S.faults input.old) (S.faults input.new) }
+    ensures failed_within { IsErrOf result ReadEnd.Failed →
+        ConsumesAtMost (S.left input.old) (S.left input.new) limit }
+    ensures memory_within { IsErrOf result ReadEnd.Memory →
+        ConsumesAtMost (S.left input.old) (S.left input.new) (limit + 1) }
     ensures sound { OnOk result (S.faults input.new ≡ S.faults input.old) }
     ensures count { S.faults input.old ≤ S.faults input.new }
 {

@@ -1,6 +1,7 @@
 // Ends that never fail.
 
-ghost use Rattle.std.specs.Prelude.{◌≡◌, ℕ, ◌+◌, ◌≤◌, ◌<◌, ◌++◌, List, [], length, take, drop, min, IfOk, IsOk, IsOkAnd, None, Some};
+ghost use Rattle.std.specs.Prelude.{◌≡◌, ℕ, ◌+◌, ◌≤◌, ◌<◌, ◌++◌, List, [], length};
+ghost use Rattle.std.specs.Prelude.{take, drop, min, IfOk, IsOk, IsOkAnd, None, Some};
 ghost use Rattle.std.specs.Io.KnownBytes.{Appends, Consumes, IsAtEnd, Keeps};
 ghost use Rattle.br_base.specs.Ends.{Rose, last_count};
 

@@ -1,5 +1,6 @@
 -- Lemmas on a memory without a range.
-use Rattle.std.proofs.Common.{◌≡◌, ℕ, ◌+◌, ◌<◌, ◌≤◌, Bool, true, false, not, ◌&&◌, nat_le, nat_lt, is_some, List, [], ◌∷◌, length, Option, Some, None, cond, refl, sym, ap, ◌∙◌, arith}
+use Rattle.std.proofs.Common.{◌≡◌, ℕ, ◌+◌, ◌<◌, ◌≤◌, Bool, true, false, not, ◌&&◌, nat_le, nat_lt, is_some}
+use Rattle.std.proofs.Common.{List, [], ◌∷◌, length, Option, Some, None, cond, refl, sym, ap, ◌∙◌, arith}
 use Rattle.std.proofs.lemmas.Bool.Decides.{nat_tests}
 use Rattle.std.specs.FinMap as map
 use Rattle.std.specs.Cmp.{nat_cmp_total}
@@ -7,8 +8,10 @@ use Rattle.br_bytes.specs.Memory.{Memory}
 use Rattle.br_bytes.specs.Buffers.{are_free, without_range}
 use Rattle.br_bytes.specs.Ranges.{IsFirstTaken}
 
-pub get-without : (m : Memory) (a n q : ℕ) → map.get (without_range m a n) q ≡ cond (not (nat_le a q && nat_lt q (a + n))) (map.get m q) None
-get-without m a n q = map.get-retain_keys m (λ q. not (nat_le a q && nat_lt q (a + n))) q (λ x e. ap (λ q. not (nat_le a q && nat_lt q (a + n))) (sym (map.nat_cmp-IsAntisymmetric q x e)))
+pub get-without : (m : Memory) (a n q : ℕ)
+    → map.get (without_range m a n) q ≡ cond (not (nat_le a q && nat_lt q (a + n))) (map.get m q) None
+get-without m a n q = map.get-retain_keys m (λ q. not (nat_le a q && nat_lt q (a + n))) q
+    (λ x e. ap (λ q. not (nat_le a q && nat_lt q (a + n))) (sym (map.nat_cmp-IsAntisymmetric q x e)))
 
 pub get-without_in : (m : Memory) (a n q : ℕ) → a ≤ q → q < a + n → map.get (without_range m a n) q ≡ None
 get-without_in m a n q low high = let e = get-without m a n q in grind (arith, nat_tests)
@@ -39,11 +42,14 @@ none_at None e = refl
 none_at (Some b) e = cc
 
 -- what is free has no byte
-pub free_is_none : (bs : List ℕ) (m : Memory) (a q : ℕ) → are_free m a bs ≡ true → a ≤ q → q < a + length bs → map.get m q ≡ None
+pub free_is_none : (bs : List ℕ) (m : Memory) (a q : ℕ) → are_free m a bs ≡ true → a ≤ q → q < a + length bs
+    → map.get m q ≡ None
 free_is_none [] m a q h low high = absurd (omega arith)
-free_is_none (b ∷ bs) m a q h low high = first_or_later (nat_lt a q) refl (free_is_none bs m (a + 1) q (are_free_rest (map.contains_key m a) (are_free m (a + 1) bs) h))
+free_is_none (b ∷ bs) m a q h low high = first_or_later (nat_lt a q) refl
+    (free_is_none bs m (a + 1) q (are_free_rest (map.contains_key m a) (are_free m (a + 1) bs) h))
   where
-    first_or_later : (later : Bool) → nat_lt a q ≡ later → (a + 1 ≤ q → q < a + 1 + length bs → map.get m q ≡ None) → map.get m q ≡ None
+    first_or_later : (later : Bool) → nat_lt a q ≡ later → (a + 1 ≤ q → q < a + 1 + length bs → map.get m q ≡ None)
+        → map.get m q ≡ None
     first_or_later false is rest =
         let l : q ≤ a = grind (arith, nat_tests) in
         let s : q ≡ a = omega arith in
@@ -52,7 +58,8 @@ free_is_none (b ∷ bs) m a q h low high = first_or_later (nat_lt a q) refl (fre
         let l : a < q = grind (arith, nat_tests) in
         rest (omega arith) (omega arith)
 
-pub free_from_none : (bs : List ℕ) (m : Memory) (a : ℕ) → ((q : ℕ) → a ≤ q → q < a + length bs → map.get m q ≡ None) → are_free m a bs ≡ true
+pub free_from_none : (bs : List ℕ) (m : Memory) (a : ℕ) → ((q : ℕ) → a ≤ q → q < a + length bs → map.get m q ≡ None)
+    → are_free m a bs ≡ true
 free_from_none [] m a h = refl
 free_from_none (b ∷ bs) m a h =
     let first = h a (omega arith) (omega arith) in

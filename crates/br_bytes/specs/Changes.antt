@@ -1,5 +1,6 @@
 -- What changes of a memory make of its ranges.
-use Rattle.std.specs.Prelude.{ℕ, ◌+◌, ◌-◌, ◌≤◌, List, [], ◌∷◌, ◌++◌, take, drop, if◌then◌else◌, nat_le, nat_lt, ◌==◌, slice_set}
+use Rattle.std.specs.Prelude.{ℕ, ◌+◌, ◌-◌, ◌≤◌, List, [], ◌∷◌, ◌++◌, take, drop}
+use Rattle.std.specs.Prelude.{if◌then◌else◌, nat_le, nat_lt, ◌==◌, slice_set}
 use Rattle.br_bytes.specs.Range.{Range, end_of}
 
 -- the lowest address at which a range may stand after these

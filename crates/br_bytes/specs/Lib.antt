@@ -1,5 +1,6 @@
 pub mod Memory
 pub mod Number
+pub mod Hexadecimal
 pub mod Buffers
 pub mod Range
 pub mod Changes

@@ -1,11 +1,13 @@
--- A memory: a finite map from addresses, which are words, to bytes. The i-th byte of an access at `a`
--- stands at `a + i` modulo 2 ^ 32, and its bytes are the number's, the lowest first (RISC-V
--- unprivileged manual, chapter 2.6).
-use Rattle.std.specs.Prelude.{ℕ, suc, zero, ◌+◌, ◌%◌, ◌^◌, ◌<◌, List, [], ◌∷◌, Option, Some, None, IfSome}
+-- A memory: a finite map from addresses, which are words, to bytes. The i-th byte of an access
+-- at `a` stands at `a + i` modulo 2 ^ 32, and its bytes are the number's, the lowest first
+-- (RISC-V unprivileged manual, chapter 2.6).
+use Rattle.std.specs.Prelude.{ℕ, suc, zero, ◌+◌, ◌%◌, ◌^◌, ◌<◌, ◌≤◌}
+use Rattle.std.specs.Prelude.{List, [], ◌∷◌, Option, Some, None, IfSome}
 use Rattle.std.specs.Ordering.{nat_cmp}
 use Rattle.std.specs.FinMap.{FinMap}
 use Rattle.std.specs.FinMap as map
 use Rattle.std.specs.Option.{option_map}
+use Rattle.br_words.specs.Layout.{data_base, stack_base}
 use Rattle.br_bytes.specs.Number.{number_of, low_bytes}
 
 abbrev pub Memory : Type 0
@@ -14,6 +16,10 @@ Memory = FinMap nat_cmp ℕ
 -- each address is a word, and each byte is below 256
 abbrev pub IsMemory : Memory → Type 0
 IsMemory m = (a : ℕ) → IfSome (map.get m a) (λ b. (a < 2 ^ 32) × (b < 256))
+
+-- each address is in the data region, and each byte is below 256
+abbrev pub IsInData : Memory → Type 0
+IsInData m = (a : ℕ) → IfSome (map.get m a) (λ b. (data_base ≤ a) × (a < stack_base) × (b < 256))
 
 -- an address as it counts: modulo 2 ^ 32
 abbrev pub place : ℕ → ℕ

@@ -1,5 +1,6 @@
 -- Ranges: bytes at consecutive addresses, and the ranges that a memory consists of.
-use Rattle.std.specs.Prelude.{ℕ, ◌+◌, ◌-◌, ◌^◌, ◌<◌, ◌≤◌, List, [], ◌∷◌, length, Option, Some, None, if◌then◌else◌, nat_le, ◌==◌, slice_get, slice_index_or}
+use Rattle.std.specs.Prelude.{ℕ, ◌+◌, ◌-◌, ◌^◌, ◌<◌, ◌≤◌, List, [], ◌∷◌, length, Option, Some}
+use Rattle.std.specs.Prelude.{None, if◌then◌else◌, nat_le, ◌==◌, slice_get, slice_index_or}
 use Rattle.std.specs.FinMap as map
 use Rattle.br_bytes.specs.Memory.{Memory}
 
@@ -49,7 +50,8 @@ byte_of (r ∷ rs) q = or_else (byte_in r q) (byte_of rs q)
 -- ranges by rising address from `low` on: none is empty, none goes past 2 ^ 32, no two touch
 abbrev pub AreApart : ℕ → List Range → Type 0
 AreApart low [] = Unit {0}
-AreApart low (r ∷ rs) = (low ≤ r.start) × (0 < length r.bytes) × (end_of r ≤ 2 ^ 32) × AreApart (end_of r + 1) rs
+AreApart low (r ∷ rs) =
+    (low ≤ r.start) × (0 < length r.bytes) × (end_of r ≤ 2 ^ 32) × AreApart (end_of r + 1) rs
 
 -- bytes from an address on, before other entries
 abbrev pub entries_at : ℕ → List ℕ → List (ℕ × ℕ) → List (ℕ × ℕ)

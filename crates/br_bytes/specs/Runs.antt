@@ -1,9 +1,10 @@
 -- What the runs of the source language and of flat programs share: states, ends, and the forms of
--- commands that do not look into an expression. A run goes on in a state or ends. `L` is what keeps the
--- local variables. After bedrock2's semantics (Integration Verification across Software and Hardware for
--- a Simple Embedded System, PLDI 2021): memory is partial, devices are asked from outside, and the
--- places of buffers are chosen from outside.
-use Rattle.std.specs.Prelude.{ℕ, zero, suc, Bool, true, false, List, [], ◌∷◌, ◌++◌, Option, Some, None, ◌==◌}
+-- commands that do not look into an expression. A run goes on in a state or ends. `L` is what keeps
+-- the local variables. After bedrock2's semantics (Integration Verification across Software and
+-- Hardware for a Simple Embedded System, PLDI 2021): memory is partial, devices are asked from
+-- outside, and the places of buffers are chosen from outside.
+use Rattle.std.specs.Prelude.{ℕ, zero, suc, Bool, true, false, List}
+use Rattle.std.specs.Prelude.{[], ◌∷◌, ◌++◌, Option, Some, None, ◌==◌}
 use Rattle.br_words.specs.Device.{is_device_word}
 use Rattle.br_bytes.specs.declared.run.Event.{Event}
 use Rattle.br_bytes.specs.declared.run.Event.TheVariants.{Read, Write}
@@ -83,7 +84,11 @@ with_buffer {L} keep n body s = take_choice s.choices
     take_choice (c ∷ cs) =
         choose (is_good n s.memory c)
         (then_do
-        (body (record s { locals = keep c.addr s.locals; memory = with_bytes s.memory c.addr c.bytes; choices = cs }))
+        (body (record s {
+          locals = keep c.addr s.locals;
+          memory = with_bytes s.memory c.addr c.bytes;
+          choices = cs;
+        }))
         (λ t. Goes (record t { memory = without_range t.memory c.addr n })))
         (Ends NoChoice s)
 
@@ -94,7 +99,8 @@ with_buffer {L} keep n body s = take_choice s.choices
 abbrev pub loop : {L : Type 0} → ℕ → (State L → Option ℕ) → (State L → Run L) → State L → Run L
 loop zero test body s = with_defined (test s) s (λ v. choose (v == 0) (Goes s) (Ends OutOfFuel s))
 loop (suc bound) test body s =
-    with_defined (test s) s (λ v. choose (v == 0) (Goes s) (with_fuel s (λ t. then_do (body t) (loop bound test body))))
+    with_defined (test s) s
+    (λ v. choose (v == 0) (Goes s) (with_fuel s (λ t. then_do (body t) (loop bound test body))))
 
 -- ---- devices
 
@@ -104,7 +110,8 @@ read_device {L} keep a s = choose (is_device_word a) (take_answer s.answers) (En
   where
     take_answer : List ℕ → Run L
     take_answer [] = Ends (Waiting a) s
-    take_answer (v ∷ vs) = Goes (happens (Read a v) (record s { locals = keep v s.locals; answers = vs }))
+    take_answer (v ∷ vs) =
+        Goes (happens (Read a v) (record s { locals = keep v s.locals; answers = vs }))
 
 -- a device word is written
 abbrev pub write_device : {L : Type 0} → ℕ → ℕ → State L → Run L

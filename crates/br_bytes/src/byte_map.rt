@@ -1,13 +1,15 @@
 // A memory that a program keeps: a finite map from addresses to bytes.
 
-ghost use Rattle.std.specs.Prelude.{◌≡◌, ℕ, ◌+◌, ◌-◌, ◌^◌, ◌<◌, ◌≤◌, length, false, Some, None, IfSome, is_some, IsTrue, Err, IfOk, OnOk, OnErr};
+ghost use Rattle.std.specs.Prelude.{◌≡◌, ℕ, ◌+◌, ◌-◌, ◌^◌, ◌<◌, ◌≤◌, length, false, Some};
+ghost use Rattle.std.specs.Prelude.{None, IfSome, is_some, IsTrue, Err, IfOk, OnOk, OnErr};
 ghost use Rattle.br_base.specs.declared.failure.OrMemory.TheVariants.{Fault};
 ghost use Rattle.std.specs.Bool.{OnTrue, OnFalse};
 ghost use Rattle.br_bytes.specs.Number.{low_bytes};
 ghost use Rattle.std.specs.FinMap as map;
 ghost use Rattle.br_words.specs.Size.{size_of};
 ghost use Rattle.br_bytes.specs.declared.byte_map.Overlap.{Overlap};
-ghost use Rattle.br_bytes.specs.Memory.{IsMemory, place, bytes_at, get_number, put_number, with_bytes};
+ghost use Rattle.br_bytes.specs.Memory.{IsMemory, place, bytes_at};
+ghost use Rattle.br_bytes.specs.Memory.{get_number, put_number, with_bytes};
 ghost use Rattle.br_bytes.specs.Buffers.{are_free, without_range};
 ghost use Rattle.br_bytes.specs.Range.{ranges, range_at, byte_of, AreApart};
 ghost use Rattle.br_bytes.specs.Ranges.{IsFirstTaken, is_whole};
@@ -192,8 +194,10 @@ impl ByteMap {
         requires { a + length bytes.now ≤ 2 ^ 32 }
         ensures free { OnOk result (IsTrue (are_free self.old a bytes.now)) }
         ensures ok { OnOk result (self.new ≡ with_bytes self.old a bytes.now) }
-        ensures taken { (o : Overlap) → result ≡ Err (Fault o) → are_free self.old a bytes.now ≡ false }
-        ensures overlap { (o : Overlap) → result ≡ Err (Fault o) → IsFirstTaken self.old a (length bytes.now) o.0 }
+        ensures taken { (o : Overlap) → result ≡ Err (Fault o) →
+            are_free self.old a bytes.now ≡ false }
+        ensures overlap { (o : Overlap) → result ≡ Err (Fault o) →
+            IsFirstTaken self.old a (length bytes.now) o.0 }
         ensures err { OnErr result (self.new ≡ self.old) }
     {
         match self.first_taken(a, bytes.len()) {
@@ -228,7 +232,8 @@ impl ByteMap {
     pub fn remove_range(&mut self, a: u32, n: u32) -> Result<bool, NoMemory>
         requires { a + n ≤ 2 ^ 32 }
         ensures whole { IfOk result (λ whole. whole ≡ is_whole self.old a n) }
-        ensures removed { IfOk result (λ whole. OnTrue whole (self.new ≡ without_range self.old a n)) }
+        ensures removed { IfOk result
+            (λ whole. OnTrue whole (self.new ≡ without_range self.old a n)) }
         ensures same { IfOk result (λ whole. OnFalse whole (self.new ≡ self.old)) }
         ensures err { OnErr result (self.new ≡ self.old) }
     {

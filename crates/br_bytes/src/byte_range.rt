@@ -23,21 +23,21 @@ impl Model for ByteRange {
 }
 
 impl ByteRange {
-    // The range of these bytes from `start` on.
+    /// The range of these bytes from `start` on.
     pub(crate) fn new(start: u32, bytes: Vec<u8>) -> ByteRange
         ensures { result ≡ record { start = start; bytes = bytes.items } }
     {
         ByteRange { start, bytes }
     }
 
-    // The first address.
+    /// The first address.
     pub(crate) fn start(&self) -> u32
         ensures { result ≡ self.now.start }
     {
         self.start
     }
 
-    // The address after the last byte.
+    /// The address after the last byte.
     pub(crate) fn end(&self) -> u64
         requires { end_of self.now ≤ 2 ^ 32 }
         ensures { result ≡ end_of self.now }
@@ -51,7 +51,7 @@ impl ByteRange {
         self.bytes.as_slice()
     }
 
-    // The byte at an address, if there is one.
+    /// The byte at an address, if there is one.
     pub(crate) fn byte(&self, a: u32) -> Option<u8>
         ensures { result ≡ byte_in self.now a }
     {
@@ -61,7 +61,7 @@ impl ByteRange {
         self.bytes.get((a - self.start) as usize).copied()
     }
 
-    // Puts a byte at an address that has one.
+    /// Puts a byte at an address that has one.
     pub(crate) fn put(&mut self, a: u32, b: u8)
         requires above { self.old.start ≤ a }
         requires below { a < end_of self.old }
@@ -71,7 +71,7 @@ impl ByteRange {
         self.bytes[i] = b;
     }
 
-    // Adds bytes after the last.
+    /// Adds bytes after the last.
     pub(crate) fn lengthen(&mut self, bytes: &[u8]) -> Result<(), NoMemory>
         ensures ok { OnOk result (self.new ≡ lengthened self.old bytes.now) }
         ensures err { OnErr result (self.new ≡ self.old) }
@@ -80,7 +80,7 @@ impl ByteRange {
         Ok(())
     }
 
-    // Keeps what stands below an address.
+    /// Keeps what stands below an address.
     pub(crate) fn end_at(&mut self, a: u32)
         requires { self.old.start ≤ a }
         ensures { self.new ≡ range_to a self.old }
@@ -89,7 +89,7 @@ impl ByteRange {
         self.bytes.truncate(n);
     }
 
-    // Keeps what stands from an address on.
+    /// Keeps what stands from an address on.
     pub(crate) fn start_at(&mut self, a: u32)
         requires above { self.old.start ≤ a }
         requires below { a ≤ end_of self.old }

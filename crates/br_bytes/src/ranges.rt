@@ -1,15 +1,18 @@
 // Ranges by rising address, as a memory keeps them.
 
-ghost use Rattle.std.specs.Prelude.{◌≡◌, ℕ, ◌+◌, ◌-◌, ◌^◌, ◌<◌, ◌≤◌, ◌∷◌, ◌++◌, length, take, drop, slice_index_or, None, IfSome, is_some, IsTrue, IfOk, OnOk, OnErr};
+ghost use Rattle.std.specs.Prelude.{◌≡◌, ℕ, ◌+◌, ◌-◌, ◌^◌, ◌<◌, ◌≤◌, ◌∷◌, ◌++◌};
+ghost use Rattle.std.specs.Prelude.{length, take, drop, slice_index_or, None};
+ghost use Rattle.std.specs.Prelude.{IfSome, is_some, IsTrue, IfOk, OnOk, OnErr};
 ghost use Rattle.std.specs.Bool.{OnTrue, OnFalse};
 ghost use Rattle.br_bytes.specs.Range.{Range, end_of, byte_of, AreApart};
-ghost use Rattle.br_bytes.specs.Changes.{after, EndsFrom, lengthened, before, added, range_to, range_from, ranges_to, ranges_from, with_byte};
+ghost use Rattle.br_bytes.specs.Changes.{after, EndsFrom, lengthened, before, added, range_to};
+ghost use Rattle.br_bytes.specs.Changes.{range_from, ranges_to, ranges_from, with_byte};
 
 use crate::byte_range::ByteRange;
 use br_base::NoMemory;
 use std::alloc::Global;
 
-// The first range that ends at `at` or above, and how many ranges there are if none does.
+/// The first range that ends at `at` or above, and how many ranges there are if none does.
 pub(crate) fn first_ending(ranges: &[ByteRange], at: u64) -> usize
     requires { AreApart 0 ranges.now }
     ensures within { result ≤ length ranges.now }
@@ -29,7 +32,7 @@ pub(crate) fn first_ending(ranges: &[ByteRange], at: u64) -> usize
     low
 }
 
-// The byte at an address, if there is one.
+/// The byte at an address, if there is one.
 pub(crate) fn byte_at(ranges: &[ByteRange], a: u32) -> Option<u8>
     requires { AreApart 0 ranges.now }
     ensures { result ≡ byte_of ranges.now a }
@@ -41,7 +44,7 @@ pub(crate) fn byte_at(ranges: &[ByteRange], a: u32) -> Option<u8>
     ranges[i].byte(a)
 }
 
-// The first of n addresses from `a` on that has a byte.
+/// The first of n addresses from `a` on that has a byte.
 pub(crate) fn first_within(ranges: &[ByteRange], a: u32, n: usize) -> Option<u32>
     requires apart { AreApart 0 ranges.now }
     requires within { a + n ≤ 2 ^ 32 }
@@ -66,7 +69,7 @@ pub(crate) fn first_within(ranges: &[ByteRange], a: u32, n: usize) -> Option<u32
     None
 }
 
-// Whether one of the ranges has all of the n addresses from `a` on, of which there is one.
+/// Whether one of the ranges has all of the n addresses from `a` on, of which there is one.
 pub(crate) fn covers(ranges: &[ByteRange], a: u32, n: u32) -> bool
     requires apart { AreApart 0 ranges.now }
     requires some { 0 < n }
@@ -82,7 +85,7 @@ pub(crate) fn covers(ranges: &[ByteRange], a: u32, n: u32) -> bool
     u64::from(a) + u64::from(n) <= ranges[i].end()
 }
 
-// Puts a byte at an address that has one.
+/// Puts a byte at an address that has one.
 pub(crate) fn put_byte(ranges: &mut Vec<ByteRange>, a: u32, b: u8)
     requires apart { AreApart 0 ranges.old.items }
     requires there { IsTrue (is_some (byte_of ranges.old.items a)) }
@@ -127,7 +130,8 @@ fn put_after(ranges: &mut Vec<ByteRange>, i: usize, bytes: &[u8]) -> Result<(), 
     requires within { (d : Range) →
         end_of (slice_index_or ranges.old.items i d) + length bytes.now ≤ 2 ^ 32 }
     ensures ok { OnOk result ((d : Range) → ranges.new.items ≡ take i ranges.old.items
-        ++ before (lengthened (slice_index_or ranges.old.items i d) bytes.now) (drop (i + 1) ranges.old.items)) }
+        ++ before (lengthened (slice_index_or ranges.old.items i d) bytes.now)
+        (drop (i + 1) ranges.old.items)) }
     ensures err { OnErr result (ranges.new.items ≡ ranges.old.items) }
 {
     let alloc = *ranges.allocator();
@@ -142,7 +146,7 @@ fn put_after(ranges: &mut Vec<ByteRange>, i: usize, bytes: &[u8]) -> Result<(), 
     ranges[i].lengthen(bytes)
 }
 
-// Adds bytes at addresses that have none.
+/// Adds bytes at addresses that have none.
 pub(crate) fn add(ranges: &mut Vec<ByteRange>, a: u32, bytes: &[u8]) -> Result<(), NoMemory>
     requires apart { AreApart 0 ranges.old.items }
     requires within { a + length bytes.now ≤ 2 ^ 32 }
@@ -220,7 +224,7 @@ fn drop_between(ranges: &mut Vec<ByteRange>, i: usize, a: u32, end: u64)
     }
 }
 
-// Takes whatever bytes there are from `a` up to `end` away.
+/// Takes whatever bytes there are from `a` up to `end` away.
 pub(crate) fn clear(ranges: &mut Vec<ByteRange>, a: u32, end: u64) -> Result<(), NoMemory>
     requires apart { AreApart 0 ranges.old.items }
     requires ordered { a < end }

@@ -1,5 +1,6 @@
 -- The image of a flat program that refines a program of the source implements that program.
-use Rattle.std.proofs.Common.{◌≡◌, ◌≢◌, ◌⊎◌, inl, inr, ℕ, zero, suc, ◌+◌, ◌*◌, ◌≤◌, List, [], ◌∷◌, length, map, Option, Some, None, refl, sym, ap, subst, ◌∙◌, slice_get, arith}
+use Rattle.std.proofs.Common.{◌≡◌, ◌≢◌, ◌⊎◌, inl, inr, ℕ, zero, suc, ◌+◌, ◌*◌, ◌≤◌, List, [], ◌∷◌, length}
+use Rattle.std.proofs.Common.{map, Option, Some, None, refl, sym, ap, subst, ◌∙◌, slice_get, arith}
 use Rattle.std.specs.Prelude.{unwrap_or}
 use Rattle.std.specs.Option.{option_map}
 use Rattle.std.proofs.lemmas.Option.{slice_get-map}
@@ -31,7 +32,8 @@ use Rattle.br_emit.specs.Emitted.{ShowsProgram}
 use Rattle.br_compile.specs.Implements.{rate, Follows, AllDescribed, Implements}
 
 -- a call that the machine shows had its choices
-has_choices : (s : MachineState) (answers : List ℕ) (o : Outcome) (trace : List Event) (m : Memory) (fuel need bound : ℕ)
+has_choices : (s : MachineState) (answers : List ℕ) (o : Outcome) (trace : List Event) (m : Memory)
+    (fuel need bound : ℕ)
     → Reaches s answers o trace m fuel need bound → o ≢ outcome.NoChoice
 has_choices s answers o trace m fuel need bound r none =
     subst (λ x. ShowsEnd x fuel r.steps r.last) none r.shows_end
@@ -75,15 +77,18 @@ bounded : (fuel a b : ℕ) → a ≤ rate * b → (fuel + 1) * a ≤ (fuel + 1) 
 bounded fuel a b few = omega (arith, mul-le-mul_left (fuel + 1) few, mul_assoc (fuel + 1) rate b)
 
 -- a call from outside by number is one of the function that has the number
-called_alike : (fs : List Func) (n : ℕ) (f : Func) (args : List ℕ) (m : Memory) (answers : List ℕ) (choices : List Choice) (fuel : ℕ)
+called_alike : (fs : List Func) (n : ℕ) (f : Func) (args : List ℕ) (m : Memory) (answers : List ℕ)
+    (choices : List Choice) (fuel : ℕ)
     → slice_get fs n ≡ Some f
     → (source_meaning fs).call n args m answers choices fuel ≡ source.call fs f args m answers choices fuel
 called_alike fs n f args m answers choices fuel here = rw here refl
 
-module _ (qs : List FlatFunc) (fs : List Func) (refines : Refines (meaning qs) (source_meaning fs)) (few : flat_bulk qs ≤ rate * bulk fs)
+module _ (qs : List FlatFunc) (fs : List Func) (refines : Refines (meaning qs) (source_meaning fs))
+    (few : flat_bulk qs ≤ rate * bulk fs)
   where
     -- flat functions and those of the source have the same names and counts, each to each
-    alike : (n : ℕ) (q : FlatFunc) (f : Func) → slice_get qs n ≡ Some q → slice_get fs n ≡ Some f → signature q ≡ source_signature f
+    alike : (n : ℕ) (q : FlatFunc) (f : Func) → slice_get qs n ≡ Some q → slice_get fs n ≡ Some f
+        → signature q ≡ source_signature f
     alike n q f there here =
         let first : slice_get (map signature qs) n ≡ Some (signature q) =
         slice_get-map signature qs n ∙ ap (option_map signature) there in
@@ -99,10 +104,12 @@ module _ (qs : List FlatFunc) (fs : List Func) (refines : Refines (meaning qs) (
         by : (o : Option FlatFunc) → slice_get qs n ≡ o → (q : FlatFunc) × (slice_get qs n ≡ Some q)
         by (Some q) is = (q, is)
         by None is =
-            let none : slice_get (map signature qs) n ≡ None = slice_get-map signature qs n ∙ ap (option_map signature) is in
+            let none : slice_get (map signature qs) n ≡ None = slice_get-map signature qs n
+            ∙ ap (option_map signature) is in
             let some : slice_get (map source_signature fs) n ≡ Some (source_signature f) =
             slice_get-map source_signature fs n ∙ ap (option_map source_signature) here in
-            let same : slice_get (map signature qs) n ≡ slice_get (map source_signature fs) n = ap (λ l. slice_get l n) refines.same in
+            let same : slice_get (map signature qs) n ≡ slice_get (map source_signature fs) n =
+            ap (λ l. slice_get l n) refines.same in
             absurd (cc (none, some, same))
 
     -- an entry of an image that shows its flat functions follows the function of the source
@@ -124,20 +131,27 @@ module _ (qs : List FlatFunc) (fs : List Func) (refines : Refines (meaning qs) (
           answer_words = are;
         } in
         let s = start Two code entry.offset args m j in
-        let flat = shows n q.0 entry q.1 at fuel args (count ∙ ap (λ x. x.args) (sym same)) words m inside answers are j left in
+        let flat = shows n q.0 entry q.1 at fuel args (count ∙ ap (λ x. x.args) (sym same)) words m inside
+        answers are j left in
         let ran = call qs n args m answers flat.0 fuel in
         let most = (fuel + 1) * rate * bulk fs in
         let has = had_choices s answers ran fuel entry.need ((fuel + 1) * flat_bulk qs) flat.2 in
         let matched = refines.calls n args m answers flat.0 fuel is flat.1 has in
         let both : OrShown s answers fuel entry.need most ((source_meaning fs).call n args m answers matched.0 fuel) =
-        shown s answers ran ((source_meaning fs).call n args m answers matched.0 fuel) fuel entry.need ((fuel + 1) * flat_bulk qs) most
-        (bounded fuel (flat_bulk qs) (bulk fs) few) matched.2 flat.2 in
-        (matched.0, matched.1, subst (OrShown s answers fuel entry.need most) (called_alike fs n f args m answers matched.0 fuel here) both)
+        shown s answers ran ((source_meaning fs).call n args m answers matched.0 fuel) fuel entry.need
+        ((fuel + 1) * flat_bulk qs) most
+        (bounded fuel (flat_bulk qs) (bulk fs) few) matched.2 flat.2 in (
+          matched.0,
+          matched.1,
+          subst (OrShown s answers fuel entry.need most) (called_alike fs n f args m answers
+              matched.0 fuel here) both,
+        )
 
     -- entries that describe flat functions with their needs describe those of the source, whose measures are no less
     described : (ps : List FlatFunc) (gs : List Func) (stack : List ℕ) (entries : List Entry)
         → map signature ps ≡ map source_signature gs → stack ≡ map (need qs) ps → emitted.AllDescribed ps stack entries
-        → ((n : ℕ) (q : FlatFunc) (f : Func) → slice_get ps n ≡ Some q → slice_get gs n ≡ Some f → need qs q ≤ measure fs f)
+        → ((n : ℕ) (q : FlatFunc) (f : Func) → slice_get ps n ≡ Some q → slice_get gs n ≡ Some f
+        → need qs q ≤ measure fs f)
         → AllDescribed fs gs entries
     described [] [] [] [] same are flat within = tt
     described [] [] (k ∷ stack) [] same are flat within = absurd flat
@@ -167,7 +181,8 @@ module _ (qs : List FlatFunc) (fs : List Func) (refines : Refines (meaning qs) (
     pub implements_refined : (i : Image) (stack : List ℕ) → stack ≡ needs qs
         → i.layout ≡ Two → length i.code ≤ flat_bulk qs
         → emitted.AllDescribed qs stack i.entries → ShowsProgram qs i.entries i.code
-        → ((n : ℕ) (q : FlatFunc) (f : Func) → slice_get qs n ≡ Some q → slice_get fs n ≡ Some f → need qs q ≤ measure fs f)
+        → ((n : ℕ) (q : FlatFunc) (f : Func) → slice_get qs n ≡ Some q → slice_get fs n ≡ Some f
+        → need qs q ≤ measure fs f)
         → Implements i fs
     implements_refined i stack are layout short flat shows within = record {
       described = described qs fs stack i.entries refines.same are flat within;

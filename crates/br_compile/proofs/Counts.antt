@@ -1,5 +1,6 @@
 -- A small function has few statements, and so has one that has grown from it.
-use Rattle.std.proofs.Common.{◌≡◌, ℕ, zero, suc, ◌+◌, ◌^◌, ◌<◌, ◌≤◌, ◌&&◌, Bool, true, false, List, [], ◌∷◌, map, length, get_or, refl, ap, subst, ◌∙◌, arith, sum}
+use Rattle.std.proofs.Common.{◌≡◌, ℕ, zero, suc, ◌+◌, ◌^◌, ◌<◌, ◌≤◌, ◌&&◌, Bool, true, false, List}
+use Rattle.std.proofs.Common.{[], ◌∷◌, map, length, get_or, refl, ap, subst, ◌∙◌, arith, sum}
 use Rattle.std.specs.Prelude.{IsTrue}
 use Rattle.std.specs.List.{AllByRecursion, list_all}
 use Rattle.br_flatimp.specs.declared.program.Stmt.{Stmt, map-Stmt}
@@ -27,7 +28,13 @@ module _ (own : Stmt-F ℕ → ℕ) (once : (y : Stmt-F ℕ) → 1 ≤ own y)
     few-all : (cs : List Known) → sum (map statement_count (stmts cs)) ≤ sum (map (added own) (stmts cs))
     few-all [] = omega arith
     few-all (c ∷ cs) =
-        omega (arith, c.1, few-all cs, sum_cons (statement_count c.0) (map statement_count (stmts cs)), sum_cons (added own c.0) (map (added own) (stmts cs)))
+        omega (
+          arith,
+          c.1,
+          few-all cs,
+          sum_cons (statement_count c.0) (map statement_count (stmts cs)),
+          sum_cons (added own c.0) (map (added own) (stmts cs)),
+        )
 
     abbrev counted : Stmt-F ℕ → ℕ
     counted y = 1 + sum (map sum (parts y))
@@ -65,7 +72,13 @@ module _ (own : Stmt-F ℕ → ℕ) (once : (y : Stmt-F ℕ) → 1 ≤ own y)
     statements-few : (cs : List Stmt) → sum (map statement_count cs) ≤ sum (map (added own) cs)
     statements-few [] = omega arith
     statements-few (c ∷ cs) =
-        omega (arith, statement-few c, statements-few cs, sum_cons (statement_count c) (map statement_count cs), sum_cons (added own c) (map (added own) cs))
+        omega (
+          arith,
+          statement-few c,
+          statements-few cs,
+          sum_cons (statement_count c) (map statement_count cs),
+          sum_cons (added own c) (map (added own) cs),
+        )
 
 one_unit : (y : Stmt-F ℕ) → 1 ≤ own_units y
 one_unit (Stmt-F.Table x size bytes y) = omega arith
@@ -96,18 +109,22 @@ one_word (Stmt-F.Read x y) = omega arith
 one_word (Stmt-F.Write y z) = omega arith
 
 -- small functions have fewer statements than a word counts
-pub few-statements : (ps : List FlatFunc) → AllByRecursion IsSmall ps → AllByRecursion (λ f. function_count f < 2 ^ 32) ps
+pub few-statements : (ps : List FlatFunc) → AllByRecursion IsSmall ps
+    → AllByRecursion (λ f. function_count f < 2 ^ 32) ps
 few-statements [] small = tt
 few-statements (p ∷ ps) small =
     (omega (arith, small.0.units, statements-few own_units one_unit p.body), few-statements ps small.1)
 
 -- so have those that have grown from them
-pub few-grown : (qs ps : List FlatFunc) → AllByRecursion IsSmall ps → HaveGrown qs ps → AllByRecursion (λ f. function_count f < 2 ^ 32) qs
+pub few-grown : (qs ps : List FlatFunc) → AllByRecursion IsSmall ps → HaveGrown qs ps
+    → AllByRecursion (λ f. function_count f < 2 ^ 32) qs
 few-grown [] [] small grown = tt
 few-grown [] (p ∷ ps) small grown = absurd grown
 few-grown (q ∷ qs) [] small grown = absurd grown
-few-grown (q ∷ qs) (p ∷ ps) small grown =
-    (omega (arith, small.0.units, grown.0.bulk, statements-few own_words one_word q.body), few-grown qs ps small.1 grown.1)
+few-grown (q ∷ qs) (p ∷ ps) small grown = (
+  omega (arith, small.0.units, grown.0.bulk, statements-few own_words one_word q.body),
+  few-grown qs ps small.1 grown.1,
+)
 
 -- ---- one function of a program
 
@@ -119,7 +136,8 @@ and-second : (a b : Bool) → (a && b) ≡ true → b ≡ true
 and-second true b e = e
 and-second false b e = absurd (cc e)
 
-item-of : (t : FlatFunc → Bool) (gs : List FlatFunc) (i : ℕ) (f : FlatFunc) → list_all t gs ≡ true → i < length gs → f ≡ get_or gs i f
+item-of : (t : FlatFunc → Bool) (gs : List FlatFunc) (i : ℕ) (f : FlatFunc) → list_all t gs ≡ true → i < length gs
+    → f ≡ get_or gs i f
     → t f ≡ true
 item-of t [] i f all inside is = absurd (omega arith)
 item-of t (g ∷ gs) zero f all inside is = ap t is ∙ and-first (t g) (list_all t gs) all
@@ -129,4 +147,5 @@ item-of t (g ∷ gs) (suc i) f all inside is =
 pub item-formed : (fs : List FlatFunc) (i : ℕ) (f : FlatFunc) → IsWellFormed fs → i < length fs → f ≡ get_or fs i f
     → IsTrue (is_well_formed_function fs f)
 item-formed fs i f formed inside is =
-    item-of (is_well_formed_function fs) fs i f (and-second (names_differ fs) (list_all (is_well_formed_function fs) fs) formed) inside is
+    item-of (is_well_formed_function fs) fs i f
+    (and-second (names_differ fs) (list_all (is_well_formed_function fs) fs) formed) inside is

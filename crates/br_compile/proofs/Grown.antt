@@ -21,7 +21,13 @@ program_grown [] [] grown = omega arith
 program_grown [] (p ∷ ps) grown = absurd grown
 program_grown (q ∷ qs) [] grown = absurd grown
 program_grown (q ∷ qs) (p ∷ ps) grown =
-    omega (arith, grown.0.bulk, program_grown qs ps grown.1, sum_cons (function_bulk q) (map function_bulk qs), sum_cons (units p) (map units ps))
+    omega (
+      arith,
+      grown.0.bulk,
+      program_grown qs ps grown.1,
+      sum_cons (function_bulk q) (map function_bulk qs),
+      sum_cons (units p) (map units ps),
+    )
 
 -- what br_spill says of sizes
 pub record Laws : Type 0 where

@@ -1,6 +1,7 @@
 -- What functions in register form need is within the measures of those of the source, and none of them has a
 -- path of calls to itself where none of the source has one.
-use Rattle.std.proofs.Common.{◌≡◌, ℕ, zero, suc, ◌+◌, ◌*◌, ◌<◌, ◌≤◌, Bool, true, false, cond, if◌then◌else◌, max, List, [], ◌∷◌, map, length, Some, None, refl, sym, ap, subst, ◌∙◌, slice_get, arith}
+use Rattle.std.proofs.Common.{◌≡◌, ℕ, zero, suc, ◌+◌, ◌*◌, ◌<◌, ◌≤◌, Bool, true, false, cond, if◌then◌else◌, max}
+use Rattle.std.proofs.Common.{List, [], ◌∷◌, map, length, Some, None, refl, sym, ap, subst, ◌∙◌, slice_get, arith}
 use Rattle.std.specs.Prelude.{unwrap_or, nat_lt, slice_index_or}
 use Rattle.std.specs.Option.{option_map}
 use Rattle.std.specs.List.{Contains, position_or_len}
@@ -44,7 +45,8 @@ where_named x =
 within_option : (n most : ℕ) → n < most → cond (nat_lt n most) (Some n) None ≡ Some n
 within_option n most low = rw (lt-ltb n most low) refl
 
-named_is : (fs : List Func) (x : List ℕ) → callee_number fs x < length fs → number_named fs x ≡ Some (callee_number fs x)
+named_is : (fs : List Func) (x : List ℕ) → callee_number fs x < length fs
+    → number_named fs x ≡ Some (callee_number fs x)
 named_is fs x low =
     let is = where_named x fs in
     within_option (position_or_len (λ f. bytes_eq f.name x) fs) (length fs) (omega (arith, is, low)) ∙ ap Some (sym is)
@@ -55,7 +57,8 @@ named_is fs x low =
 abbrev pub MeasuresAdd : Type 0
 MeasuresAdd = (fs : List Func) (f : ℕ) (caller : Func) → source_paths.HasNoRecursion fs → slice_get fs f ≡ Some caller
     → source_stack.measure fs caller ≡ 4 * source.function_bulk caller + 256 + source_stack.nested_buffers caller
-    + source_stack.largest (map (λ x. unwrap_or (option_map (source_stack.measure fs) (function_named fs x)) 0) (source_paths.callees caller))
+    + source_stack.largest (map (λ x. unwrap_or (option_map (source_stack.measure fs) (function_named fs x)) 0)
+    (source_paths.callees caller))
 
 -- the function of the source that a function in register form comes from
 record Source (fs gs : List Func) (n : ℕ) (q : FlatFunc) : Type 0 where
@@ -77,7 +80,8 @@ source_of fs (f ∷ gs) (p ∷ ps) (r ∷ qs) sized grown zero q at =
       func = f;
       at = refl;
       nest = omega (arith, ap nest same, grown.0.nest, sized.0.nest, sized.0.names);
-      callees = λ g called. sized.0.callees g (grown.0.callees g (subst (λ gs. Contains gs g) (ap callees same) called));
+      callees =
+          λ g called. sized.0.callees g (grown.0.callees g (subst (λ gs. Contains gs g) (ap callees same) called));
     }
 source_of fs (f ∷ gs) (p ∷ ps) (r ∷ qs) sized grown (suc n) q at =
     let rest = source_of fs gs ps qs sized.1 grown.1 n q at in
@@ -103,7 +107,8 @@ one_within F (m ∷ ns) n zero low is = omega (arith, ap F is)
 one_within F (m ∷ ns) n (suc k) low is = omega (arith, one_within F ns n k (omega arith) is)
 
 -- so is the largest of numbers that are all in the list
-largest_within : (F : ℕ → ℕ) (ms ns : List ℕ) → ((n : ℕ) → Contains ms n → Contains ns n) → largest (map F ms) ≤ largest (map F ns)
+largest_within : (F : ℕ → ℕ) (ms ns : List ℕ) → ((n : ℕ) → Contains ms n → Contains ns n)
+    → largest (map F ms) ≤ largest (map F ns)
 largest_within F [] ns among = omega arith
 largest_within F (m ∷ ms) ns among =
     let first = among m (0, omega arith, refl) in
@@ -113,41 +118,50 @@ largest_within F (m ∷ ms) ns among =
       largest_within F ms ns (λ n has. among n (suc has.0, omega (arith, has.1), has.2)),
     )
 
-by_number : (fs : List Func) (xs : List (List ℕ)) → map (measure_at fs) (map (callee_number fs) xs) ≡ map (measure_named fs) xs
+by_number : (fs : List Func) (xs : List (List ℕ))
+    → map (measure_at fs) (map (callee_number fs) xs) ≡ map (measure_named fs) xs
 by_number fs [] = refl
 by_number fs (x ∷ xs) =
     let first : measure_at fs (callee_number fs x) ≡ measure_named fs x =
     ap (λ o. unwrap_or (option_map (source_stack.measure fs) o) 0) (callee_is fs x) in
-    ap (λ v. v ∷ map (measure_at fs) (map (callee_number fs) xs)) first ∙ ap (λ vs. measure_named fs x ∷ vs) (by_number fs xs)
+    ap (λ v. v ∷ map (measure_at fs) (map (callee_number fs) xs)) first
+    ∙ ap (λ vs. measure_named fs x ∷ vs) (by_number fs xs)
 
-module _ (adds : MeasuresAdd) (fs : List Func) (ps qs : List FlatFunc) (sized : AreSized fs fs ps) (grown : HaveGrown qs ps) (none : source_paths.HasNoRecursion fs)
+module _ (adds : MeasuresAdd) (fs : List Func) (ps qs : List FlatFunc) (sized : AreSized fs fs ps)
+    (grown : HaveGrown qs ps) (none : source_paths.HasNoRecursion fs)
   where
     source_at : (n : ℕ) (q : FlatFunc) → slice_get qs n ≡ Some q → Source fs fs n q
     source_at = source_of fs fs ps qs sized grown
 
     -- the measures bound what the functions need
-    measures_bound : (n : ℕ) (q : FlatFunc) → slice_get qs n ≡ Some q → 120 + nest q + largest (map (measure_at fs) (callees q)) ≤ measure_at fs n
+    measures_bound : (n : ℕ) (q : FlatFunc) → slice_get qs n ≡ Some q
+        → 120 + nest q + largest (map (measure_at fs) (callees q)) ≤ measure_at fs n
     measures_bound n q at =
         let s = source_at n q at in
-        let here : measure_at fs n ≡ source_stack.measure fs s.func = ap (λ o. unwrap_or (option_map (source_stack.measure fs) o) 0) s.at in
+        let here : measure_at fs n ≡ source_stack.measure fs s.func =
+        ap (λ o. unwrap_or (option_map (source_stack.measure fs) o) 0) s.at in
         let all = map (callee_number fs) (source_paths.callees s.func) in
         let called = largest_within (measure_at fs) (callees q) all s.callees in
-        let named : largest (map (measure_at fs) all) ≡ source_stack.largest (map (measure_named fs) (source_paths.callees s.func)) =
+        let named : largest (map (measure_at fs) all)
+        ≡ source_stack.largest (map (measure_named fs) (source_paths.callees s.func)) =
         same_largest (map (measure_at fs) all) ∙ ap source_stack.largest (by_number fs (source_paths.callees s.func)) in
         omega (arith, here, called, named, s.nest, adds fs n s.func none s.at)
 
     pub needs_within : ((bound : ℕ → ℕ)
         → ((n : ℕ) (q : FlatFunc) → slice_get qs n ≡ Some q → 120 + nest q + largest (map bound (callees q)) ≤ bound n)
         → (n : ℕ) (q : FlatFunc) → slice_get qs n ≡ Some q → need qs q ≤ bound n)
-        → (n : ℕ) (q : FlatFunc) (f : Func) → slice_get qs n ≡ Some q → slice_get fs n ≡ Some f → need qs q ≤ source_stack.measure fs f
+        → (n : ℕ) (q : FlatFunc) (f : Func) → slice_get qs n ≡ Some q → slice_get fs n ≡ Some f
+        → need qs q ≤ source_stack.measure fs f
     needs_within bounded n q f at here =
-        let is : measure_at fs n ≡ source_stack.measure fs f = ap (λ o. unwrap_or (option_map (source_stack.measure fs) o) 0) here in
+        let is : measure_at fs n ≡ source_stack.measure fs f =
+        ap (λ o. unwrap_or (option_map (source_stack.measure fs) o) 0) here in
         omega (arith, is, bounded (measure_at fs) measures_bound n q at)
 
     -- ---- paths of calls
 
     -- a name of which a number comes
-    of_map : (xs : List (List ℕ)) (g k : ℕ) → k < length (map (callee_number fs) xs) → slice_index_or (map (callee_number fs) xs) k g ≡ g
+    of_map : (xs : List (List ℕ)) (g k : ℕ) → k < length (map (callee_number fs) xs)
+        → slice_index_or (map (callee_number fs) xs) k g ≡ g
         → (x : List ℕ) × Contains xs x × (callee_number fs x ≡ g)
     of_map [] g k low is = absurd (omega arith)
     of_map (x ∷ xs) g zero low is = (x, (zero, omega arith, refl), is)
@@ -175,7 +189,8 @@ module _ (adds : MeasuresAdd) (fs : List Func) (ps qs : List FlatFunc) (sized : 
     begins_within f [] g calls = caller_within f g calls
     begins_within f (h ∷ hs) g path = caller_within f h path.0
 
-    path_of : (f : ℕ) (between : List ℕ) (g : ℕ) → g < length fs → CallPath qs f between g → source_paths.CallPath fs f between g
+    path_of : (f : ℕ) (between : List ℕ) (g : ℕ) → g < length fs → CallPath qs f between g
+        → source_paths.CallPath fs f between g
     path_of f [] g low calls = call_of f g low calls
     path_of f (h ∷ hs) g low path = (call_of f h (begins_within h hs g path.1) path.0, path_of h hs g low path.1)
 

@@ -1,5 +1,6 @@
 -- What the passes make of a program of the source, by their contracts.
-use Rattle.std.proofs.Common.{◌≡◌, ℕ, ◌+◌, ◌<◌, ◌≤◌, Bool, true, false, ◌&&◌, List, [], ◌∷◌, map, length, Some, refl, sym, ap, subst, ◌∙◌, slice_get, get_or, min, sum, arith}
+use Rattle.std.proofs.Common.{◌≡◌, ℕ, ◌+◌, ◌<◌, ◌≤◌, Bool, true, false, ◌&&◌, List, [], ◌∷◌, map, length}
+use Rattle.std.proofs.Common.{Some, refl, sym, ap, subst, ◌∙◌, slice_get, get_or, min, sum, arith}
 use Rattle.std.specs.Prelude.{All, unwrap_or}
 use Rattle.std.specs.Option.{option_map}
 use Rattle.std.specs.List.{AllByRecursion, list_all}
@@ -17,7 +18,8 @@ use Rattle.br_flatimp.specs.Liveness.{has_no_dead}
 use Rattle.br_flatimp.specs.Missed.{has_no_missed}
 use Rattle.br_flatimp.specs.Parts.{callees}
 use Rattle.br_flatimp.specs.Refines.{Meaning, Refines, meaning, signature}
-use Rattle.br_flatimp.specs.Sizes.{HasNoRecursion, KeptFunction, Kept, units, largest, need, needs, own_need, nest, flat_bulk}
+use Rattle.br_flatimp.specs.Sizes.{HasNoRecursion, KeptFunction, Kept, units}
+use Rattle.br_flatimp.specs.Sizes.{largest, need, needs, own_need, nest, flat_bulk}
 use Rattle.br_flatimp.specs.WellFormed.{IsRegisterForm, IsWellFormed}
 use Rattle.br_flatten.specs.Meaning.{source_meaning, source_signature}
 use Rattle.br_flatten.specs.Sized.{IsSized, AreSized}
@@ -46,7 +48,13 @@ units_within fs [] [] sized = omega arith
 units_within fs [] (p ∷ ps) sized = absurd sized
 units_within fs (f ∷ gs) [] sized = absurd sized
 units_within fs (f ∷ gs) (p ∷ ps) sized =
-    omega (arith, sized.0.units, units_within fs gs ps sized.1, sum_cons (units p) (map units ps), sum_cons (source.function_bulk f) (map source.function_bulk gs))
+    omega (
+      arith,
+      sized.0.units,
+      units_within fs gs ps sized.1,
+      sum_cons (units p) (map units ps),
+      sum_cons (source.function_bulk f) (map source.function_bulk gs),
+    )
 
 -- ---- passes between flattening and register form
 
@@ -84,7 +92,8 @@ after_pass composes fs qs ps flat formed refines kept = record {
 pub record Passes : Type 0 where
   pub adds : MeasuresAdd
   pub bounded : (fs : List FlatFunc) (bound : ℕ → ℕ) → IsRegisterForm fs
-      → ((f : ℕ) (caller : FlatFunc) → slice_get fs f ≡ Some caller → 120 + nest caller + largest (map bound (callees caller)) ≤ bound f)
+      → ((f : ℕ) (caller : FlatFunc) → slice_get fs f ≡ Some caller
+      → 120 + nest caller + largest (map bound (callees caller)) ≤ bound f)
       → (f : ℕ) (caller : FlatFunc) → slice_get fs f ≡ Some caller → need fs caller ≤ bound f
   pub composes : Composes
 
@@ -95,11 +104,13 @@ in_registers passes fs ps qs sound flat grown refines form = record {
   register_form = form;
   refines = passes.composes (meaning qs) (meaning ps) (source_meaning fs) refines flat.refines;
   no_recursion = no_recursion passes.adds fs ps qs flat.sizes grown sound.no_recursion;
-  within = needs_within passes.adds fs ps qs flat.sizes grown sound.no_recursion (λ bound. passes.bounded qs bound form);
+  within =
+      needs_within passes.adds fs ps qs flat.sizes grown sound.no_recursion (λ bound. passes.bounded qs bound form);
   short = omega (arith, program_grown qs ps grown, units_within fs fs ps flat.sizes);
 }
 
-small_each : (fs gs : List Func) (ps : List FlatFunc) → AreSized fs gs ps → source.bulk gs ≤ 32768 → AllByRecursion IsSmall ps
+small_each : (fs gs : List Func) (ps : List FlatFunc) → AreSized fs gs ps → source.bulk gs ≤ 32768
+    → AllByRecursion IsSmall ps
 small_each fs [] [] sized few = tt
 small_each fs [] (p ∷ ps) sized few = absurd sized
 small_each fs (f ∷ gs) [] sized few = absurd sized
@@ -131,7 +142,8 @@ lean (q ∷ qs) (p ∷ ps) stay missed dead = (
 -- In registers alone nothing comes to be missed or dead but copies, and new names change nothing of that.
 pub wide_lean : ((names : ℕ) → names ≤ 1048544 → (wide_layout names).slots ≡ 0)
     → ((l : Layout) (f : FlatFunc) → l.slots ≡ 0 → buffers (spilled_function l f) ≡ buffers f)
-    → (rs ps : List FlatFunc) → AllByRecursion IsSmall ps → AreAsLean (wide_program ps) ps → KeepLean rs (wide_program ps)
+    → (rs ps : List FlatFunc) → AllByRecursion IsSmall ps → AreAsLean (wide_program ps) ps
+    → KeepLean rs (wide_program ps)
     → list_all has_no_missed ps ≡ true → list_all has_no_dead ps ≡ true → AllByRecursion IsLean rs
 wide_lean slots same [] [] small as_lean keep missed dead = tt
 wide_lean slots same [] (p ∷ ps) small as_lean keep missed dead = absurd keep
@@ -140,14 +152,18 @@ wide_lean slots same (r ∷ rs) (p ∷ ps) small as_lean keep missed dead =
     let none = same (wide_layout p.names) p (slots p.names (omega (arith, small.0.names))) in
     let no_more : buffers (spilled_function (wide_layout p.names) p) ≤ buffers p = omega (arith, none) in (
       record {
-        none_missed = λ _. keep.0.none_missed (as_lean.0.none_missed no_more (and-first (has_no_missed p) (list_all has_no_missed ps) missed));
-        none_dead = λ _. keep.0.none_dead_but_copies (as_lean.0.none_dead no_more (and-first (has_no_dead p) (list_all has_no_dead ps) dead));
+        none_missed = λ _. keep.0.none_missed
+            (as_lean.0.none_missed no_more (and-first (has_no_missed p) (list_all has_no_missed ps) missed));
+        none_dead = λ _. keep.0.none_dead_but_copies
+            (as_lean.0.none_dead no_more (and-first (has_no_dead p) (list_all has_no_dead ps) dead));
       },
-      wide_lean slots same rs ps small.1 as_lean.1 keep.1 (and-second (has_no_missed p) (list_all has_no_missed ps) missed)
+      wide_lean slots same rs ps small.1 as_lean.1 keep.1
+          (and-second (has_no_missed p) (list_all has_no_missed ps) missed)
           (and-second (has_no_dead p) (list_all has_no_dead ps) dead),
     )
 
-pub renamed_none_missed : (qs ps : List FlatFunc) → KeepLean qs ps → list_all has_no_missed ps ≡ true → list_all has_no_missed qs ≡ true
+pub renamed_none_missed : (qs ps : List FlatFunc) → KeepLean qs ps → list_all has_no_missed ps ≡ true
+    → list_all has_no_missed qs ≡ true
 renamed_none_missed [] [] keep missed = refl
 renamed_none_missed [] (p ∷ ps) keep missed = absurd keep
 renamed_none_missed (q ∷ qs) [] keep missed = absurd keep
@@ -156,7 +172,8 @@ renamed_none_missed (q ∷ qs) (p ∷ ps) keep missed =
     (keep.0.none_missed (and-first (has_no_missed p) (list_all has_no_missed ps) missed))
     (renamed_none_missed qs ps keep.1 (and-second (has_no_missed p) (list_all has_no_missed ps) missed))
 
-pub renamed_none_dead : (qs ps : List FlatFunc) → KeepLean qs ps → list_all has_no_dead ps ≡ true → list_all has_no_dead qs ≡ true
+pub renamed_none_dead : (qs ps : List FlatFunc) → KeepLean qs ps → list_all has_no_dead ps ≡ true
+    → list_all has_no_dead qs ≡ true
 renamed_none_dead [] [] keep dead = refl
 renamed_none_dead [] (p ∷ ps) keep dead = absurd keep
 renamed_none_dead (q ∷ qs) [] keep dead = absurd keep
@@ -200,7 +217,8 @@ pub as_many : (fs : List Func) (qs : List FlatFunc) → Refines (meaning qs) (so
 as_many fs qs refines = sym (length-map qs signature) ∙ ap length refines.same ∙ length-map fs source_signature
 
 -- the code fits the code region
-pub fits_region : (fs : List Func) (qs : List FlatFunc) → IsSound fs → IsInRegisters qs fs → flat_bulk qs ≤ most_words Two
+pub fits_region : (fs : List Func) (qs : List FlatFunc) → IsSound fs → IsInRegisters qs fs
+    → flat_bulk qs ≤ most_words Two
 fits_region fs qs sound lowered = omega (arith, lowered.short, sound.small)
 
 -- a list at numbers, where two functions agree on each
@@ -214,13 +232,16 @@ need_at qs g = sym (unwrap_or-slice_get (map (need qs) qs) g 0) ∙ ap (λ o. un
 -- that needs add up, as br_stack_need says
 abbrev pub NeedsAdd : Type 0
 NeedsAdd = (fs : List FlatFunc) (f : ℕ) (caller : FlatFunc) → HasNoRecursion fs → slice_get fs f ≡ Some caller
-    → need fs caller ≡ min 4294967295 (own_need caller + largest (map (λ g. unwrap_or (option_map (need fs) (slice_get fs g)) 0) (callees caller)))
+    → need fs caller ≡ min 4294967295 (own_need caller
+    + largest (map (λ g. unwrap_or (option_map (need fs) (slice_get fs g)) 0) (callees caller)))
 
 -- what functions need is what emission takes as their needs
-pub are_needs : NeedsAdd → (qs : List FlatFunc) (stack : List ℕ) → HasNoRecursion qs → stack ≡ needs qs → AreNeeds qs stack
+pub are_needs : NeedsAdd → (qs : List FlatFunc) (stack : List ℕ) → HasNoRecursion qs → stack ≡ needs qs
+    → AreNeeds qs stack
 are_needs adds qs stack none is = subst (AreNeeds qs) (sym is) (record {
   count = length-map qs (need qs);
   each = λ n f at.
       need_at qs n ∙ ap (λ o. unwrap_or (option_map (need qs) o) 0) at ∙ adds qs n f none at
-      ∙ ap (λ v. min 4294967295 (own_need f + largest v)) (sym (same_map (λ g. get_or (needs qs) g 0) (λ g. unwrap_or (option_map (need qs) (slice_get qs g)) 0) (need_at qs) (callees f)));
+      ∙ ap (λ v. min 4294967295 (own_need f + largest v)) (sym (same_map (λ g. get_or (needs qs) g 0)
+      (λ g. unwrap_or (option_map (need qs) (slice_get qs g)) 0) (need_at qs) (callees f)));
 })

@@ -11,7 +11,8 @@ use Rattle.br_source_meaning.specs.Calls.{call}
 use Rattle.br_image.specs.declared.images.Entry.{Entry}
 use Rattle.br_image.specs.declared.images.Image.{Image}
 use Rattle.br_machine.specs.declared.stepped.Stepped.{Stepped}
-use Rattle.br_machine.specs.declared.stepped.Stepped.TheVariants.{Ran, Read, Wrote, Waiting, Halted, Trapped}
+use Rattle.br_machine.specs.declared.stepped.Stepped.TheVariants.{Ran, Read, Wrote}
+use Rattle.br_machine.specs.declared.stepped.Stepped.TheVariants.{Waiting, Halted, Trapped}
 use Rattle.br_machine.specs.State.{MachineState}
 use Rattle.br_machine.specs.Start.{Leftover, IsLeftover, IsInData, start}
 use Rattle.br_machine.specs.Steps.{Moment, next_step, after_steps}
@@ -34,18 +35,22 @@ pub record ShowsFront (n : ℕ) (m : Moment) (trace : List Event) : Type 0 where
   pub rest : List Event
   pub front : trace ≡ (after_steps n m).trace ++ rest
 
--- For some choices of buffers, the source's call with n units of fuel is undefined, or the first n steps
--- show a front of its trace.
-abbrev pub FollowsAtFirst : Layout → List ℕ → List Func → Func → Entry → List ℕ → Memory → List ℕ → Leftover → ℕ → Type 0
+-- For some choices of buffers, the source's call with n units of fuel is undefined, or the
+-- first n steps show a front of its trace.
+abbrev pub FollowsAtFirst : Layout → List ℕ → List Func → Func → Entry → List ℕ → Memory → List ℕ
+    → Leftover → ℕ → Type 0
 FollowsAtFirst layout code fs f entry args m answers j n =
     (choices : List Choice) × AreChoices choices ×
     (let called = call fs f args m answers choices n in
-    (called.outcome ≡ Undefined) ⊎ ShowsFront n (first_moment (start layout code entry.offset args m j) answers) called.trace)
+    (called.outcome ≡ Undefined) ⊎ ShowsFront n
+    (first_moment (start layout code entry.offset args m j) answers) called.trace)
 
--- What an image that implements a program shows after any number of steps, also where it never ends: for
--- every function, arguments, memory in the data region, answers of devices and leftover contents.
+-- What an image that implements a program shows after any number of steps, also
+-- where it never ends: for every function, arguments, memory in the data region,
+-- answers of devices and leftover contents.
 pub record ImplementsAtFirst (i : Image) (fs : List Func) : Type 0 where
-  pub follows : (n : ℕ) (f : Func) (entry : Entry) → slice_get fs n ≡ Some f → slice_get i.entries n ≡ Some entry
+  pub follows : (n : ℕ) (f : Func) (entry : Entry) → slice_get fs n ≡ Some f
+      → slice_get i.entries n ≡ Some entry
       → (args : List ℕ) → length args ≡ length f.args → AreWords args
       → (m : Memory) → IsInData m
       → (answers : List ℕ) → AreWords answers

@@ -1,20 +1,17 @@
 -- Which texts stand for which programs, and what refuses the others.
 use Rattle.std.specs.Prelude.{ℕ, ◌<◌, ◌≤◌, List, length}
 use Rattle.br_sexpr.specs.declared.tree.Tree.{Tree}
-use Rattle.br_sexpr.specs.Reads.{Reads, HasFault}
+use Rattle.br_sexpr.specs.Reads.{most_bytes, Reads, HasFault}
 use Rattle.br_syntax.specs.declared.program.Func.{Func}
 use Rattle.br_syntax.specs.Denotes.{Denotes, IsShapeFault}
 use Rattle.br_measure.specs.Faults.{IsFault, IsSound}
 use Rattle.br_compile.specs.declared.refusal.Refusal.{Refusal}
 use Rattle.br_compile.specs.declared.refusal.Refusal.TheVariants as refusal
 
--- the most bytes of a source text
-abbrev pub most_bytes : ℕ
-most_bytes = 1048576
-
 -- the text is read as trees that stand for these functions
 abbrev pub StandsFor : List ℕ → List Func → Type 0
-StandsFor text fs = (length text ≤ most_bytes) × (trees : List Tree) × Reads text trees × Denotes trees fs
+StandsFor text fs =
+    (length text ≤ most_bytes) × (trees : List Tree) × Reads text trees × Denotes trees fs
 
 -- the text stands for these functions, and no rule on names, bulk, recursion and stack is broken
 abbrev pub Accepts : List ℕ → List Func → Type 0

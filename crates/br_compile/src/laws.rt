@@ -19,16 +19,22 @@ use br_syntax::one_meaning;
 /// n units of fuel is undefined, none of the first n steps of an image that follows it traps, and
 /// the events of these steps are the first events of a source run.
 pub fn first_steps_show_a_run()
-    ensures { (layout : Layout) (code : List ℕ) (fs : List Func) (f : Func) (entry : Entry) (args : List ℕ) (m : Memory) (answers : List ℕ) (j : Leftover) (n : ℕ) →
-        Follows layout code fs f entry args m answers j n → FollowsAtFirst layout code fs f entry args m answers j n }
+    ensures { (layout : Layout) (code : List ℕ) (fs : List Func) (f : Func) (entry : Entry)
+        (args : List ℕ) (m : Memory) (answers : List ℕ) (j : Leftover) (n : ℕ) →
+        Follows layout code fs f entry args m answers j n →
+        FollowsAtFirst layout code fs f entry args m answers j n }
 {}
 
 /// Each text is accepted as one program or has one fault, and never both.
 pub fn texts_are_accepted_or_at_fault()
-    ensures some { (text : List ℕ) → ((fs : List Func) × Accepts text fs) ⊎ ((r : Refusal) × IsFaultOf text r) }
-    ensures one_program { (text : List ℕ) (fs gs : List Func) → Accepts text fs → Accepts text gs → fs ≡ gs }
-    ensures one_fault { (text : List ℕ) (first second : Refusal) → IsFaultOf text first → IsFaultOf text second → first ≡ second }
-    ensures never_both { (text : List ℕ) (fs : List Func) (r : Refusal) → Accepts text fs → IsFaultOf text r → ⊥ }
+    ensures some { (text : List ℕ) →
+        ((fs : List Func) × Accepts text fs) ⊎ ((r : Refusal) × IsFaultOf text r) }
+    ensures one_program { (text : List ℕ) (fs gs : List Func) → Accepts text fs →
+        Accepts text gs → fs ≡ gs }
+    ensures one_fault { (text : List ℕ) (first second : Refusal) → IsFaultOf text first →
+        IsFaultOf text second → first ≡ second }
+    ensures never_both { (text : List ℕ) (fs : List Func) (r : Refusal) → Accepts text fs →
+        IsFaultOf text r → ⊥ }
 {
     one_answer();
     one_meaning();

@@ -3,7 +3,7 @@
 ghost use Rattle.std.specs.Prelude.{◌≡◌, ◌≤◌, List, length, IfOk, IfErr, IsTrue};
 ghost use Rattle.std.specs.List.{AllByRecursion, list_all};
 ghost use Rattle.br_base.specs.Faults.{IfFault};
-ghost use Rattle.br_sexpr.specs.Reads.{Reads};
+ghost use Rattle.br_sexpr.specs.Reads.{most_bytes, Reads};
 ghost use Rattle.br_syntax.specs.Denotes.{Denotes};
 ghost use Rattle.br_syntax.specs.declared.program.Func.{Func};
 ghost use Rattle.br_measure.specs.Faults.{IsSound};
@@ -12,8 +12,9 @@ ghost use Rattle.br_flatimp.specs.Missed.{has_no_missed};
 ghost use Rattle.br_flatimp.specs.Refines.{Refines, meaning};
 ghost use Rattle.br_flatimp.specs.WellFormed.{IsWellFormed};
 ghost use Rattle.br_compile.specs.declared.refusal.Refusal.{Refusal};
-ghost use Rattle.br_compile.specs.Refusal.{most_bytes, Accepts, IsFaultOf, IsShapeRefusal, IsNameRefusal};
-ghost use Rattle.br_compile.specs.Lowered.{AreSmall, HaveGrown, IsFlat, IsInRegisters, IsLean, IsLowered};
+ghost use Rattle.br_compile.specs.Refusal.{Accepts, IsFaultOf, IsShapeRefusal, IsNameRefusal};
+ghost use Rattle.br_compile.specs.Lowered.{AreSmall, HaveGrown, IsFlat};
+ghost use Rattle.br_compile.specs.Lowered.{IsInRegisters, IsLean, IsLowered};
 
 use crate::refusal::Refusal;
 use br_base::{NoMemory, OrMemory};
@@ -25,7 +26,7 @@ use br_live::names_are_below;
 use br_measure::{Checked, check, measures_add_up, sound_programs_have_no_fault};
 use br_regalloc_check::assign;
 use br_regalloc_propose::{propose, propose_registers};
-use br_sexpr::{Tree, one_answer, read};
+use br_sexpr::{MOST_BYTES, Tree, one_answer, read};
 use br_spill::{
     is_in_register_form, layouts_fit, pass_in_registers, spill, spilled_functions_keep_sizes,
     wide_layouts_fit,
@@ -34,9 +35,6 @@ use br_stack_need::{needs, needs_are_bounded};
 use br_syntax::{Program, from_tree};
 use sqlite_items::Items;
 use std::alloc::Global;
-
-/// The most bytes of a source text.
-pub const MOST_BYTES: usize = 1_048_576;
 
 /// A flat program in register form, made of a source text.
 #[derive(Debug, Drop)]
@@ -50,14 +48,15 @@ pub struct Lowered {
 }
 
 /// The flat program in register form of the program that a source text stands for. It refines that
-/// program and has its functions in order, each needs at most the measure of its source, and its flat
-/// bulk is at most 24 words for each unit of the program's bulk. In a function without buffers no
-/// operand is a name that could be a constant, and no statement but a copy writes a name that is never
-/// read and does nothing else.
+/// program and has its functions in order, each needs at most the measure of its source, and its
+/// flat bulk is at most 24 words for each unit of the program's bulk. In a function without
+/// buffers no operand is a name that could be a constant, and no statement but a copy writes a
+/// name that is never read and does nothing else.
 ///
 /// An `Err` that is no want of memory is the first thing that refuses the text.
 pub fn lower(alloc: Global, text: &[u8]) -> Result<Lowered, OrMemory<Refusal>>
-    ensures lowered { IfOk result (λ l. (fs : List Func) × Accepts text.now fs × IsLowered l.flat.funcs l.needs.items l.bulk fs) }
+    ensures lowered { IfOk result (λ l. (fs : List Func) × Accepts text.now fs
+        × IsLowered l.flat.funcs l.needs.items l.bulk fs) }
     ensures unrefused { IfOk result (λ _. (r : Refusal) → IsFaultOf text.now r → ⊥) }
     ensures refused { IfErr result (λ e. IfFault e (λ r. IsFaultOf text.now r)) }
 {
@@ -87,8 +86,8 @@ fn lowered_program(alloc: Global, program: &Checked) -> Result<Lowered, NoMemory
     })
 }
 
-// Registers alone are tried first. Where a function needs more of them than there are, the names of all
-// functions become few by another way, and those past the registers words of a buffer.
+// Registers alone are tried first. Where a function needs more of them than there are, the names of
+// all functions become few by another way, and those past the registers words of a buffer.
 fn in_registers(alloc: Global, program: &Checked) -> Result<FlatProgram, NoMemory>
     ensures lowered { IfOk result (λ q. IsInRegisters q.funcs program.now) }
     ensures lean { IfOk result (λ q. AllByRecursion IsLean q.funcs) }
@@ -110,14 +109,15 @@ fn in_registers(alloc: Global, program: &Checked) -> Result<FlatProgram, NoMemor
     Ok(spilled)
 }
 
-// The program whose words are passed in registers, and whose names are then those registers that are
-// proposed, in each function where it may take them.
+// The program whose words are passed in registers, and whose names are then those registers that
+// are proposed, in each function where it may take them.
 fn with_registers(alloc: Global, p: &FlatProgram) -> Result<FlatProgram, NoMemory>
     requires small { AreSmall p.now.funcs }
     ensures well_formed { IfOk result (λ q. IsWellFormed q.funcs) }
     ensures refines { IfOk result (λ q. Refines (meaning q.funcs) (meaning p.now.funcs)) }
     ensures grown { IfOk result (λ q. HaveGrown q.funcs p.now.funcs) }
-    ensures lean { IfOk result (λ q. IsTrue (list_all has_no_missed p.now.funcs) → IsTrue (list_all has_no_dead p.now.funcs) → AllByRecursion IsLean q.funcs) }
+    ensures lean { IfOk result (λ q. IsTrue (list_all has_no_missed p.now.funcs) →
+        IsTrue (list_all has_no_dead p.now.funcs) → AllByRecursion IsLean q.funcs) }
 {
     wide_layouts_fit();
     spilled_functions_keep_sizes();
@@ -132,8 +132,10 @@ fn with_registers(alloc: Global, p: &FlatProgram) -> Result<FlatProgram, NoMemor
 fn with_few_names(alloc: Global, p: FlatProgram) -> Result<FlatProgram, NoMemory>
     requires small { AreSmall p.funcs }
     ensures flat { IfOk result (λ q. (fs : List Func) → IsFlat p.funcs fs → IsFlat q.funcs fs) }
-    ensures none_missed { IfOk result (λ q. IsTrue (list_all has_no_missed p.funcs) → IsTrue (list_all has_no_missed q.funcs)) }
-    ensures none_dead { IfOk result (λ q. IsTrue (list_all has_no_dead p.funcs) → IsTrue (list_all has_no_dead q.funcs)) }
+    ensures none_missed { IfOk result
+        (λ q. IsTrue (list_all has_no_missed p.funcs) → IsTrue (list_all has_no_missed q.funcs)) }
+    ensures none_dead { IfOk result
+        (λ q. IsTrue (list_all has_no_dead p.funcs) → IsTrue (list_all has_no_dead q.funcs)) }
 {
     refines_composes();
     let proposals = proposals_for(alloc, p.funcs.as_slice())?;
@@ -172,22 +174,14 @@ fn trees_of(alloc: Global, text: &[u8]) -> Result<Items<Tree>, OrMemory<Refusal>
     ensures trees { IfOk result (λ trees. Reads text.now trees) }
     ensures refused { IfErr result (λ e. IfFault e (λ r. IsFaultOf text.now r)) }
 {
-    match read(alloc, text) {
-        Ok(trees) => Ok(trees),
-        Err(OrMemory::Memory) => Err(OrMemory::Memory),
-        Err(OrMemory::Fault(fault)) => Err(OrMemory::Fault(Refusal::Text(fault))),
-    }
+    read(alloc, text).map_err(|cause| cause.map(Refusal::Text))
 }
 
 fn program_of(alloc: Global, trees: &[Tree]) -> Result<Program, OrMemory<Refusal>>
     ensures denotes { IfOk result (λ p. Denotes trees.now p.funcs) }
     ensures refused { IfErr result (λ e. IfFault e (λ r. IsShapeRefusal trees.now r)) }
 {
-    match from_tree(alloc, trees) {
-        Ok(program) => Ok(program),
-        Err(OrMemory::Memory) => Err(OrMemory::Memory),
-        Err(OrMemory::Fault(fault)) => Err(OrMemory::Fault(Refusal::Shape(fault))),
-    }
+    from_tree(alloc, trees).map_err(|cause| cause.map(Refusal::Shape))
 }
 
 fn checked_of(alloc: Global, program: Program) -> Result<Checked, OrMemory<Refusal>>
@@ -195,9 +189,5 @@ fn checked_of(alloc: Global, program: Program) -> Result<Checked, OrMemory<Refus
     ensures sound { IfOk result (λ c. IsSound c) }
     ensures refused { IfErr result (λ e. IfFault e (λ r. IsNameRefusal program.funcs r)) }
 {
-    match check(alloc, program) {
-        Ok(checked) => Ok(checked),
-        Err(OrMemory::Memory) => Err(OrMemory::Memory),
-        Err(OrMemory::Fault(fault)) => Err(OrMemory::Fault(Refusal::Names(fault))),
-    }
+    check(alloc, program).map_err(|cause| cause.map(Refusal::Names))
 }

@@ -1,5 +1,6 @@
 -- Which statements a set closes, by their kind.
-use Rattle.std.proofs.Common.{◌≡◌, ℕ, ℤ, Bool, true, false, not, ◌&&◌, ◌||◌, List, [], ◌∷◌, map, refl, sym, ap, subst, ◌∙◌}
+use Rattle.std.proofs.Common.{◌≡◌, ℕ, ℤ, Bool, true, false, not, ◌&&◌, ◌||◌}
+use Rattle.std.proofs.Common.{List, [], ◌∷◌, map, refl, sym, ap, subst, ◌∙◌}
 use Rattle.std.specs.List.{list_all}
 use Rattle.br_words.specs.declared.operation.BinOp.{BinOp}
 use Rattle.br_words.specs.declared.size.Size.{Size}
@@ -8,7 +9,11 @@ use Rattle.br_flatimp.specs.declared.program.Operand.{Operand}
 use Rattle.br_flatimp.specs.declared.program.Stmt.{Stmt, map-Stmt}
 use Rattle.br_flatimp.specs.declared.program.Stmt.TheOpen.{Stmt-F}
 use Rattle.br_flatimp.specs.declared.program.Stmt.TheViews.{roll-Stmt}
-use Rattle.br_flatimp.specs.declared.program.Stmt.TheVariants.{Lit, Copy, Op, Load, Store, Table, Stackalloc, If, Loop, Call, Read, Write, rolls-Lit, rolls-Copy, rolls-Op, rolls-Load, rolls-Store, rolls-Table, rolls-Stackalloc, rolls-If, rolls-Loop, rolls-Call, rolls-Read, rolls-Write}
+use Rattle.br_flatimp.specs.declared.program.Stmt.TheVariants.{Lit, Copy, Op, Load, Store, Table, Stackalloc}
+use Rattle.br_flatimp.specs.declared.program.Stmt.TheVariants.{If, Loop, Call, Read, Write, rolls-Lit}
+use Rattle.br_flatimp.specs.declared.program.Stmt.TheVariants.{rolls-Copy, rolls-Op, rolls-Load, rolls-Store}
+use Rattle.br_flatimp.specs.declared.program.Stmt.TheVariants.{rolls-Table, rolls-Stackalloc, rolls-If}
+use Rattle.br_flatimp.specs.declared.program.Stmt.TheVariants.{rolls-Loop, rolls-Call, rolls-Read, rolls-Write}
 use Rattle.br_flatimp.specs.declared.program.Stmt.TheFolds.{fold-roll-Stmt, ind-Stmt}
 use Rattle.br_flatimp.specs.Values.{Names}
 use Rattle.br_flatimp.specs.Parts.{operand_names, test_names, read, parts}
@@ -150,7 +155,8 @@ Each = (c : Stmt) × (is_closed every c ≡ true)
 
 each-closed : (es : List Each) → all_true (map (is_closed every) (map (λ e. e.0) es)) ≡ true
 each-closed [] = refl
-each-closed (e ∷ es) = both (is_closed every e.0) (all_true (map (is_closed every) (map (λ d. d.0) es))) e.1 (each-closed es)
+each-closed (e ∷ es) =
+    both (is_closed every e.0) (all_true (map (is_closed every) (map (λ d. d.0) es))) e.1 (each-closed es)
 
 parts-closed : (y : Stmt-F Each)
     → list_all all_true (parts (map-Stmt Stmt Bool (is_closed every) (map-Stmt Each Stmt (λ e. e.0) y))) ≡ true
@@ -163,7 +169,8 @@ parts-closed (Stmt-F.Table x size bytes y) = refl
 parts-closed (Stmt-F.Call xs g ys) = refl
 parts-closed (Stmt-F.Read x y) = refl
 parts-closed (Stmt-F.Write y z) = refl
-parts-closed (Stmt-F.Stackalloc x n body) = only (all_true (map (is_closed every) (map (λ e. e.0) body))) ∙ each-closed body
+parts-closed (Stmt-F.Stackalloc x n body) =
+    only (all_true (map (is_closed every) (map (λ e. e.0) body))) ∙ each-closed body
 parts-closed (Stmt-F.If test first second) =
     both (all_true (map (is_closed every) (map (λ e. e.0) first)))
     (all_true (map (is_closed every) (map (λ e. e.0) second)) && true) (each-closed first)
@@ -187,4 +194,5 @@ all-closed [] = refl
 all-closed (c ∷ cs) = both (is_closed every c) (list_all (is_closed every) cs) (statement-closed c) (all-closed cs)
 
 pub every_closed : (f : FlatFunc) → is_closed_function (listed []) f ≡ true
-every_closed f = both (list_all every f.results) (list_all (is_closed every) f.body) (all-in f.results) (all-closed f.body)
+every_closed f =
+    both (list_all every f.results) (list_all (is_closed every) f.body) (all-in f.results) (all-closed f.body)

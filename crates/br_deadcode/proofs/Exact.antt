@@ -1,5 +1,6 @@
 -- The sets of a sweep are within those of liveness, and are the same where the sweep leaves nothing out.
-use Rattle.std.proofs.Common.{◌≡◌, ℕ, Bool, true, false, not, ◌==◌, ◌&&◌, ◌||◌, List, [], ◌∷◌, ◌++◌, map, inl, inr, refl, sym, ap, subst, ◌∙◌, IsTrue, if◌then◌else◌}
+use Rattle.std.proofs.Common.{◌≡◌, ℕ, Bool, true, false, not, ◌==◌, ◌&&◌, ◌||◌, List, [], ◌∷◌, ◌++◌}
+use Rattle.std.proofs.Common.{map, inl, inr, refl, sym, ap, subst, ◌∙◌, IsTrue, if◌then◌else◌}
 use Rattle.std.specs.List.{list_any, list_all}
 use Rattle.br_flatimp.specs.declared.program.Cond.{Cond}
 use Rattle.br_flatimp.specs.declared.program.Stmt.{Stmt, map-Stmt}
@@ -9,10 +10,13 @@ use Rattle.br_flatimp.specs.declared.program.Stmt.TheFolds.{fold-roll-Stmt, ind-
 use Rattle.br_flatimp.specs.declared.program.FlatFunc.{FlatFunc}
 use Rattle.br_flatimp.specs.Values.{Names}
 use Rattle.br_flatimp.specs.Parts.{written, read, test_names}
-use Rattle.br_flatimp.specs.Liveness.{is_in, union, without, Within, Moment, Live, entry, moments, at_test, is_removable, before_step, live_step, live, before, before_all, is_dead, has_no_dead}
+use Rattle.br_flatimp.specs.Liveness.{is_in, union, without, Within, Moment, Live, entry}
+use Rattle.br_flatimp.specs.Liveness.{moments, at_test, is_removable, before_step, live_step}
+use Rattle.br_flatimp.specs.Liveness.{live, before, before_all, is_dead, has_no_dead}
 use Rattle.br_flatimp.proofs.Live.{or_left, or_right, or_cases, and_both, both_and, grows-before}
 use Rattle.br_flatimp.proofs.Covers.{is_number}
-use Rattle.br_deadcode.specs.Sweeps.{is_idle, Swept, lives_in, sweep_step, sweep, before_left, leaves_of, function_leaves, program_leaves}
+use Rattle.br_deadcode.specs.Sweeps.{is_idle, Swept, lives_in, sweep_step, sweep}
+use Rattle.br_deadcode.specs.Sweeps.{before_left, leaves_of, function_leaves, program_leaves}
 use Rattle.br_deadcode.proofs.Lives.{lives-all}
 
 -- ---- within

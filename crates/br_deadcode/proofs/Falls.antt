@@ -1,5 +1,6 @@
 -- A sweep that leaves something out leaves fewer statements.
-use Rattle.std.proofs.Common.{◌≡◌, ℕ, ◌+◌, ◌<◌, ◌≤◌, Bool, true, false, ◌||◌, List, [], ◌∷◌, map, Option, Some, None, sum, refl, sym, subst, arith, if◌then◌else◌}
+use Rattle.std.proofs.Common.{◌≡◌, ℕ, ◌+◌, ◌<◌, ◌≤◌, Bool, true, false, ◌||◌, List, [], ◌∷◌, map}
+use Rattle.std.proofs.Common.{Option, Some, None, sum, refl, sym, subst, arith, if◌then◌else◌}
 use Rattle.br_flatimp.specs.declared.program.Stmt.{Stmt, map-Stmt}
 use Rattle.br_flatimp.specs.declared.program.Stmt.TheOpen.{Stmt-F}
 use Rattle.br_flatimp.specs.declared.program.Stmt.TheViews.{roll-Stmt}
@@ -10,7 +11,9 @@ use Rattle.br_flatimp.specs.Parts.{parts}
 use Rattle.br_flatimp.specs.Liveness.{is_in}
 use Rattle.br_flatimp.specs.Sizes.{statement_count, function_count}
 use Rattle.br_deadcode.proofs.Sums.{sum_cons}
-use Rattle.br_deadcode.specs.Sweeps.{is_idle, Swept, put, swept_test, swept_start, kept, inner_left_out, sweep_step, sweep, before_left, left_of, leaves_of, swept_function, function_leaves, swept_program, program_leaves}
+use Rattle.br_deadcode.specs.Sweeps.{is_idle, Swept, put, swept_test, swept_start, kept, inner_left_out}
+use Rattle.br_deadcode.specs.Sweeps.{sweep_step, sweep, before_left, left_of, leaves_of, swept_function}
+use Rattle.br_deadcode.specs.Sweeps.{function_leaves, swept_program, program_leaves}
 
 -- how many statements are left of one
 abbrev left_count : Option Stmt → ℕ

@@ -1,5 +1,6 @@
 -- No operand becomes missed by a sweep: the last write before a read is not left out.
-use Rattle.std.proofs.Common.{◌≡◌, ℕ, Bool, true, false, not, ◌&&◌, ◌||◌, List, [], ◌∷◌, map, Option, Some, None, refl, sym, ap, subst, ◌∙◌, IsTrue, if◌then◌else◌}
+use Rattle.std.proofs.Common.{◌≡◌, ℕ, Bool, true, false, not, ◌&&◌, ◌||◌, List, [], ◌∷◌, map}
+use Rattle.std.proofs.Common.{Option, Some, None, refl, sym, ap, subst, ◌∙◌, IsTrue, if◌then◌else◌}
 use Rattle.std.specs.List.{list_any}
 use Rattle.br_flatimp.specs.declared.program.Operand.TheVariants as operand
 use Rattle.br_flatimp.specs.declared.program.Stmt.{Stmt, map-Stmt}
@@ -10,10 +11,12 @@ use Rattle.br_flatimp.specs.declared.program.FlatFunc.{FlatFunc}
 use Rattle.br_flatimp.specs.Values.{Names}
 use Rattle.br_flatimp.specs.Parts.{written, read}
 use Rattle.br_flatimp.specs.Liveness.{is_in, is_removable, union, without}
-use Rattle.br_flatimp.specs.Missed.{Shown, is_straight, literal, name_operand, literal_of, fits_literal, is_missed, misses_after, shown_step, shown}
+use Rattle.br_flatimp.specs.Missed.{Shown, is_straight, literal, name_operand, literal_of}
+use Rattle.br_flatimp.specs.Missed.{fits_literal, is_missed, misses_after, shown_step, shown}
 use Rattle.br_flatimp.proofs.Live.{or_left, or_right, both_and}
 use Rattle.br_flatimp.proofs.Covers.{is_in-head, is_in-tail}
-use Rattle.br_deadcode.specs.Sweeps.{is_idle, Swept, put, swept_test, swept_start, before_kept, kept, sweep_step, sweep, before_left, left_of, swept_function, swept_program}
+use Rattle.br_deadcode.specs.Sweeps.{is_idle, Swept, put, swept_test, swept_start, before_kept, kept}
+use Rattle.br_deadcode.specs.Sweeps.{sweep_step, sweep, before_left, left_of, swept_function, swept_program}
 use Rattle.br_deadcode.specs.LeftOut.{MissesNoMore, InPairs}
 use Rattle.br_deadcode.proofs.Idle.{idle-map}
 use Rattle.br_deadcode.proofs.Exact.{apart, not_true, and-second}

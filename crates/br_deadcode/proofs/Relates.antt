@@ -1,5 +1,6 @@
 -- What is counted or gathered of statements, beside that of what is left of them.
-use Rattle.std.proofs.Common.{◌≡◌, ℕ, Bool, true, false, not, ◌&&◌, List, [], ◌∷◌, map, Option, Some, None, refl, sym, subst, ◌∙◌, if◌then◌else◌}
+use Rattle.std.proofs.Common.{◌≡◌, ℕ, Bool, true, false, not, ◌&&◌, List, [], ◌∷◌, map}
+use Rattle.std.proofs.Common.{Option, Some, None, refl, sym, subst, ◌∙◌, if◌then◌else◌}
 use Rattle.std.specs.List.{list_any}
 use Rattle.br_flatimp.specs.declared.program.Cond.{Cond}
 use Rattle.br_flatimp.specs.declared.program.Stmt.{Stmt, map-Stmt}
@@ -9,7 +10,8 @@ use Rattle.br_flatimp.specs.declared.program.Stmt.TheFolds.{fold-Stmt, fold-roll
 use Rattle.br_flatimp.specs.Values.{Names}
 use Rattle.br_flatimp.specs.Parts.{written}
 use Rattle.br_flatimp.specs.Liveness.{is_removable}
-use Rattle.br_deadcode.specs.Sweeps.{is_idle, Swept, put, swept_test, swept_start, kept, sweep_step, sweep, before_left, left_of}
+use Rattle.br_deadcode.specs.Sweeps.{is_idle, Swept, put, swept_test, swept_start}
+use Rattle.br_deadcode.specs.Sweeps.{kept, sweep_step, sweep, before_left, left_of}
 
 -- A relation of what a fold by `g` makes of a statement that is left and of the statement itself, and one of
 -- lists of these: a removable statement may be missing, and statements with parts go by their parts.

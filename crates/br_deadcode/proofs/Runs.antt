@@ -1,6 +1,7 @@
 -- What is left of statements runs as those that it is left of, from what is live before them in the sweep to
 -- what is live after them.
-use Rattle.std.proofs.Common.{◌≡◌, ◌≢◌, ℕ, zero, suc, Bool, true, false, not, ◌==◌, List, [], ◌∷◌, map, Option, Some, None, inl, inr, refl, sym, ap, subst, ◌∙◌, IsTrue, if◌then◌else◌}
+use Rattle.std.proofs.Common.{◌≡◌, ◌≢◌, ℕ, zero, suc, Bool, true, false, not, ◌==◌, List, [], ◌∷◌, map}
+use Rattle.std.proofs.Common.{Option, Some, None, inl, inr, refl, sym, ap, subst, ◌∙◌, IsTrue, if◌then◌else◌}
 use Rattle.std.proofs.Math.Bool.{or-false}
 use Rattle.std.specs.List.{list_any}
 use Rattle.br_words.specs.Size.{size_of}
@@ -28,9 +29,11 @@ use Rattle.br_flatimp.specs.Renaming.{renamed_test, renamed_step, At}
 use Rattle.br_flatimp.proofs.Live.{test-holds, or_left, or_right, or_cases}
 use Rattle.br_flatimp.proofs.Matches.{matches-then_do, matches-weaker}
 use Rattle.br_flatimp.proofs.Covers.{other_number, covers-words}
-use Rattle.br_flatimp.proofs.Renamed.{Outside, outside-locals, at-within, needed, renamed-simple, renamed-stackalloc, renamed-if, renamed-loop}
+use Rattle.br_flatimp.proofs.Renamed.{Outside, outside-locals, at-within, needed, renamed-simple}
+use Rattle.br_flatimp.proofs.Renamed.{renamed-stackalloc, renamed-if, renamed-loop}
 use Rattle.br_flatimp.proofs.Programs.{EntriesMatch, matches-returned, refines-from_entries}
-use Rattle.br_deadcode.specs.Sweeps.{is_idle, Swept, lives_in, put, before_kept, kept, sweep_step, sweep, before_left, left_of, swept_function, swept_program}
+use Rattle.br_deadcode.specs.Sweeps.{is_idle, Swept, lives_in, put, before_kept, kept, sweep_step}
+use Rattle.br_deadcode.specs.Sweeps.{sweep, before_left, left_of, swept_function, swept_program}
 use Rattle.br_deadcode.proofs.Lives.{lives-all}
 use Rattle.br_deadcode.proofs.Idle.{idle-map}
 use Rattle.br_deadcode.proofs.Exact.{not_true, shrinks-all}
@@ -101,7 +104,8 @@ KeptRuns q p a z =
     (s t : State) → At id (before_kept (map-Stmt Stmt Swept sweep z) a) s t
     → Matches (At id a) Outside (ran q (kept (map-Stmt Stmt Swept sweep z) a) s) (ran p z t)
 
-pub simple-runs : (q p : Callee) → CalleesMatch q p → (y : Stmt-F (State → Run)) (a : Names) (s t : State) → parts y ≡ []
+pub simple-runs : (q p : Callee) → CalleesMatch q p → (y : Stmt-F (State → Run)) (a : Names) (s t : State)
+    → parts y ≡ []
     → renamed_step id y ≡ y → At id (needed y a) s t
     → Matches (At id a) Outside (statement_step forgets_none q y s) (statement_step forgets_none p y t)
 simple-runs q p callees y a s t simple same h =

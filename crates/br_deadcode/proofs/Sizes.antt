@@ -1,6 +1,7 @@
 -- What is left of a program has no greater sizes and no other callees, is well formed, and has the same
 -- statements that are not removable.
-use Rattle.std.proofs.Common.{◌≡◌, ℕ, zero, suc, ◌+◌, ◌≤◌, ◌&&◌, Bool, true, false, List, [], ◌∷◌, ◌++◌, map, length, inl, inr, max, sum, refl, sym, ap, subst, ◌∙◌, arith, slice_get}
+use Rattle.std.proofs.Common.{◌≡◌, ℕ, zero, suc, ◌+◌, ◌≤◌, ◌&&◌, Bool, true, false, List, [], ◌∷◌, ◌++◌}
+use Rattle.std.proofs.Common.{map, length, inl, inr, max, sum, refl, sym, ap, subst, ◌∙◌, arith, slice_get}
 use Rattle.std.proofs.Math.Path.{fun_ext}
 use Rattle.std.specs.List.{flat_map, list_all, list_any, Contains}
 use Rattle.std.specs.Str.{bytes_eq}
@@ -12,7 +13,8 @@ use Rattle.br_flatimp.specs.declared.program.FlatFunc.{FlatFunc}
 use Rattle.br_flatimp.specs.Parts.{parts, gathered, own_callees, throughout}
 use Rattle.br_flatimp.specs.Liveness.{is_in, is_removable}
 use Rattle.br_flatimp.specs.Sizes.{own_units, units, largest, own_bytes, nest, KeptFunction, Kept}
-use Rattle.br_flatimp.specs.WellFormed.{are_below, all_differ, counts_fit, fits, is_well_formed_statement, is_well_formed_head, is_well_formed_function, names_differ, IsWellFormed}
+use Rattle.br_flatimp.specs.WellFormed.{are_below, all_differ, counts_fit, fits, is_well_formed_statement}
+use Rattle.br_flatimp.specs.WellFormed.{is_well_formed_head, is_well_formed_function, names_differ, IsWellFormed}
 use Rattle.br_deadcode.specs.Sweeps.{left_of, swept_function, swept_program}
 use Rattle.br_deadcode.specs.LeftOut.{joined, others_step, others, HasSameOthers, InPairs}
 use Rattle.br_deadcode.proofs.Sums.{sum_cons}

@@ -1,21 +1,28 @@
 -- What a sweep makes of statements, by their kind.
-use Rattle.std.proofs.Common.{◌≡◌, ℕ, Bool, true, false, not, ◌||◌, List, [], ◌∷◌, map, Option, Some, None, inl, inr, refl, sym, ap, subst, ◌∙◌, if◌then◌else◌}
+use Rattle.std.proofs.Common.{◌≡◌, ℕ, Bool, true, false, not, ◌||◌, List, [], ◌∷◌, map, Option}
+use Rattle.std.proofs.Common.{Some, None, inl, inr, refl, sym, ap, subst, ◌∙◌, if◌then◌else◌}
 use Rattle.std.proofs.Math.Path.{fun_ext}
 use Rattle.br_flatimp.specs.declared.program.Cond.{Cond}
 use Rattle.br_flatimp.specs.declared.program.Stmt.{Stmt, map-Stmt}
 use Rattle.br_flatimp.specs.declared.program.Stmt.TheOpen.{Stmt-F}
 use Rattle.br_flatimp.specs.declared.program.Stmt.TheViews.{roll-Stmt}
-use Rattle.br_flatimp.specs.declared.program.Stmt.TheVariants.{Lit, Copy, Op, Load, Store, Table, Stackalloc, If, Loop, Call, Read, Write, rolls-Lit, rolls-Copy, rolls-Op, rolls-Load, rolls-Store, rolls-Table, rolls-Stackalloc, rolls-If, rolls-Loop, rolls-Call, rolls-Read, rolls-Write}
+use Rattle.br_flatimp.specs.declared.program.Stmt.TheVariants.{Lit, Copy, Op, Load, Store, Table, Stackalloc}
+use Rattle.br_flatimp.specs.declared.program.Stmt.TheVariants.{If, Loop, Call, Read, Write, rolls-Lit}
+use Rattle.br_flatimp.specs.declared.program.Stmt.TheVariants.{rolls-Copy, rolls-Op, rolls-Load, rolls-Store}
+use Rattle.br_flatimp.specs.declared.program.Stmt.TheVariants.{rolls-Table, rolls-Stackalloc, rolls-If}
+use Rattle.br_flatimp.specs.declared.program.Stmt.TheVariants.{rolls-Loop, rolls-Call, rolls-Read, rolls-Write}
 use Rattle.br_flatimp.specs.declared.program.Stmt.TheFolds.{fold-roll-Stmt, ind-Stmt}
 use Rattle.br_flatimp.specs.Values.{Names}
 use Rattle.br_flatimp.specs.Parts.{test_names}
 use Rattle.br_flatimp.specs.Liveness.{is_in, union, without, Live, entry, live, before, before_all, at_test}
-use Rattle.br_live.specs.Own.{own_read, own_written}
+use Rattle.br_flatimp.specs.Parts.{own_read, own_written}
 use Rattle.br_live.specs.Turns.{Turned, turned_step, turned, turns_of}
 use Rattle.br_live.proofs.Names.{union-none, without-none}
-use Rattle.br_live.proofs.Own.{written-stackalloc, read-stackalloc, written-if, read-if, live-lit, live-copy, live-op, live-load, live-store, live-table, live-call, live-read, live-write}
+use Rattle.br_live.proofs.Own.{written-stackalloc, read-stackalloc, written-if, read-if, live-lit, live-copy}
+use Rattle.br_live.proofs.Own.{live-op, live-load, live-store, live-table, live-call, live-read, live-write}
 use Rattle.br_live.proofs.Plain.{IsPlain}
-use Rattle.br_deadcode.specs.Sweeps.{is_idle, idle, Swept, lives_in, before_kept, kept, inner_left_out, sweep_step, sweep, before_left, left_of, leaves_of}
+use Rattle.br_deadcode.specs.Sweeps.{is_idle, idle, Swept, lives_in, before_kept, kept, inner_left_out}
+use Rattle.br_deadcode.specs.Sweeps.{sweep_step, sweep, before_left, left_of, leaves_of}
 use Rattle.br_deadcode.proofs.Idle.{idle-map, idle-roll}
 use Rattle.br_deadcode.proofs.Lives.{lives-all}
 

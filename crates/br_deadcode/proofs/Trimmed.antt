@@ -1,5 +1,6 @@
 -- Functions without what is not needed run as before, are no larger, and miss no more.
-use Rattle.std.proofs.Common.{◌≡◌, ℕ, zero, suc, ◌==◌, Bool, true, false, not, ◌&&◌, ◌||◌, List, [], ◌∷◌, map, Option, Some, None, inl, inr, refl, sym, ap, subst, ◌∙◌, IsTrue, if◌then◌else◌}
+use Rattle.std.proofs.Common.{◌≡◌, ℕ, zero, suc, ◌==◌, Bool, true, false, not, ◌&&◌, ◌||◌, List, [], ◌∷◌, map}
+use Rattle.std.proofs.Common.{Option, Some, None, inl, inr, refl, sym, ap, subst, ◌∙◌, IsTrue, if◌then◌else◌}
 use Rattle.std.specs.List.{list_all}
 use Rattle.br_bytes.specs.Runs.{Goes, then_do, with_defined, choose, loop}
 use Rattle.br_flatimp.specs.declared.program.Stmt.{Stmt, map-Stmt}
@@ -18,16 +19,20 @@ use Rattle.br_flatimp.specs.Renaming.{At}
 use Rattle.br_flatimp.proofs.Live.{or_cases}
 use Rattle.br_flatimp.proofs.Matches.{matches-then_do}
 use Rattle.br_flatimp.proofs.Covers.{is_number, covers-within, covers-words}
-use Rattle.br_flatimp.proofs.Renamed.{Outside, outside-locals, at-within, needed, renamed-stackalloc, renamed-if, renamed-loop}
+use Rattle.br_flatimp.proofs.Renamed.{Outside, outside-locals, at-within, needed}
+use Rattle.br_flatimp.proofs.Renamed.{renamed-stackalloc, renamed-if, renamed-loop}
 use Rattle.br_flatimp.proofs.Programs.{EntriesMatch, matches-returned, refines-from_entries}
 use Rattle.br_deadcode.specs.Sweeps.{is_idle}
 use Rattle.br_deadcode.specs.LeftOut.{InPairs, MissesNoMore}
-use Rattle.br_deadcode.specs.Unneeded.{kept_in, trim_step, trim, trimmed, trimmed_function, reads_within, is_closed, is_closed_function, IsTrimmed}
+use Rattle.br_deadcode.specs.Unneeded.{kept_in, trim_step, trim, trimmed, trimmed_function}
+use Rattle.br_deadcode.specs.Unneeded.{reads_within, is_closed, is_closed_function, IsTrimmed}
 use Rattle.br_deadcode.proofs.Closed.{closed-roll}
 use Rattle.br_deadcode.proofs.Idle.{idle-map}
-use Rattle.br_deadcode.proofs.Missing.{AgreeOn, shown_of, front, Passes, or-first, or-second, put-misses, simple-fine, idle-fine, one-part, two-parts, choice-fine}
+use Rattle.br_deadcode.proofs.Missing.{AgreeOn, shown_of, front, Passes, or-first, or-second, put-misses}
+use Rattle.br_deadcode.proofs.Missing.{simple-fine, idle-fine, one-part, two-parts, choice-fine}
 use Rattle.br_deadcode.proofs.Exact.{not_true}
-use Rattle.br_deadcode.proofs.Runs.{id, same_test, same_names, run_left, run-put, ran, simple-runs, same_operand, same_call, idle-runs, choice-runs}
+use Rattle.br_deadcode.proofs.Runs.{id, same_test, same_names, run_left, run-put, ran}
+use Rattle.br_deadcode.proofs.Runs.{simple-runs, same_operand, same_call, idle-runs, choice-runs}
 use Rattle.br_deadcode.proofs.Sizes.{and-first, and-second, all_true, all-made}
 
 -- ---- what is read is in the set
@@ -49,7 +54,8 @@ needs-within set y h z i =
       | inr r ↦ list-within set (read y) h z r
     ]
 
-reads-map : {X Y : Type 0} (f : X → Y) (set : Names) (y : Stmt-F X) → list_all set (read (map-Stmt X Y f y)) ≡ list_all set (read y)
+reads-map : {X Y : Type 0} (f : X → Y) (set : Names) (y : Stmt-F X)
+    → list_all set (read (map-Stmt X Y f y)) ≡ list_all set (read y)
 reads-map f set (Stmt-F.Lit x n) = refl
 reads-map f set (Stmt-F.Copy x y) = refl
 reads-map f set (Stmt-F.Op x op y z) = refl

@@ -1,6 +1,7 @@
 -- Functions without what is not needed are no larger, well formed, and have the same statements that are not
 -- removable.
-use Rattle.std.proofs.Common.{◌≡◌, ℕ, zero, suc, ◌+◌, ◌<◌, ◌&&◌, ◌||◌, not, Bool, true, List, [], ◌∷◌, ◌++◌, length, drop, get_or, append_assoc, refl, sym, ap, subst, ◌∙◌, slice_get}
+use Rattle.std.proofs.Common.{◌≡◌, ℕ, zero, suc, ◌+◌, ◌<◌, ◌&&◌, ◌||◌, not, Bool, true, List, [], ◌∷◌, ◌++◌}
+use Rattle.std.proofs.Common.{length, drop, get_or, append_assoc, refl, sym, ap, subst, ◌∙◌, slice_get}
 use Rattle.std.proofs.Math.Path.{fun_ext}
 use Rattle.std.specs.List.{list_all, list_any, Contains}
 use Rattle.std.specs.Str.{bytes_eq}
@@ -10,11 +11,16 @@ use Rattle.br_flatimp.specs.declared.program.FlatFunc.{FlatFunc}
 use Rattle.br_flatimp.specs.Parts.{throughout}
 use Rattle.br_flatimp.specs.Sizes.{KeptFunction, Kept}
 use Rattle.br_flatimp.specs.Values.{Names}
-use Rattle.br_flatimp.specs.WellFormed.{are_below, all_differ, counts_fit, fits, is_well_formed_statement, is_well_formed_head, is_well_formed_function, names_differ, IsWellFormed}
+use Rattle.br_flatimp.specs.WellFormed.{are_below, all_differ, counts_fit, fits, is_well_formed_statement}
+use Rattle.br_flatimp.specs.WellFormed.{is_well_formed_head, is_well_formed_function, names_differ, IsWellFormed}
 use Rattle.br_deadcode.specs.LeftOut.{others_step, HasSameOthers, InPairs, MissesNoMore}
 use Rattle.br_deadcode.specs.Unneeded.{trimmed, trimmed_function, IsTrimmed}
 use Rattle.br_deadcode.proofs.Rounds.{IsLeftOf, next}
-use Rattle.br_deadcode.proofs.Sizes.{units_step, NotAbove, SumNotAbove, itself, both_not_above, units-relation, nest_step, LargestNotAbove, nest-relation, callees_step, Among, AllAmong, callees-relation, gathered-all, Same, JoinedSame, others-relation, others-all, and-first, and-second, both, fits_step, Follows, AllFollow, formed-relation, all-made}
+use Rattle.br_deadcode.proofs.Sizes.{units_step, NotAbove, SumNotAbove, itself, both_not_above}
+use Rattle.br_deadcode.proofs.Sizes.{units-relation, nest_step, LargestNotAbove, nest-relation}
+use Rattle.br_deadcode.proofs.Sizes.{callees_step, Among, AllAmong, callees-relation, gathered-all, Same}
+use Rattle.br_deadcode.proofs.Sizes.{JoinedSame, others-relation, others-all, and-first, and-second}
+use Rattle.br_deadcode.proofs.Sizes.{both, fits_step, Follows, AllFollow, formed-relation, all-made}
 use Rattle.br_deadcode.proofs.Trims.{trimmed-related}
 use Rattle.br_deadcode.proofs.Trimmed.{trimmed-refines, misses-no_more}
 

@@ -1,11 +1,15 @@
 -- What is left of statements by a set of names: step by step, and beside the statements themselves.
-use Rattle.std.proofs.Common.{◌≡◌, ℕ, Bool, true, false, not, List, [], ◌∷◌, map, Option, Some, None, inl, inr, refl, sym, ap, subst, ◌∙◌, if◌then◌else◌}
+use Rattle.std.proofs.Common.{◌≡◌, ℕ, Bool, true, false, not, List, [], ◌∷◌, map, Option}
+use Rattle.std.proofs.Common.{Some, None, inl, inr, refl, sym, ap, subst, ◌∙◌, if◌then◌else◌}
 use Rattle.std.specs.List.{list_any}
 use Rattle.br_flatimp.specs.declared.program.Cond.{Cond}
 use Rattle.br_flatimp.specs.declared.program.Stmt.{Stmt, map-Stmt}
 use Rattle.br_flatimp.specs.declared.program.Stmt.TheOpen.{Stmt-F}
 use Rattle.br_flatimp.specs.declared.program.Stmt.TheViews.{roll-Stmt}
-use Rattle.br_flatimp.specs.declared.program.Stmt.TheVariants.{Stackalloc, If, Loop, rolls-Lit, rolls-Copy, rolls-Op, rolls-Load, rolls-Store, rolls-Table, rolls-Stackalloc, rolls-If, rolls-Loop, rolls-Call, rolls-Read, rolls-Write}
+use Rattle.br_flatimp.specs.declared.program.Stmt.TheVariants.{Stackalloc, If, Loop, rolls-Lit, rolls-Copy}
+use Rattle.br_flatimp.specs.declared.program.Stmt.TheVariants.{rolls-Op, rolls-Load, rolls-Store, rolls-Table}
+use Rattle.br_flatimp.specs.declared.program.Stmt.TheVariants.{rolls-Stackalloc, rolls-If, rolls-Loop}
+use Rattle.br_flatimp.specs.declared.program.Stmt.TheVariants.{rolls-Call, rolls-Read, rolls-Write}
 use Rattle.br_flatimp.specs.declared.program.Stmt.TheFolds.{fold-Stmt, fold-roll-Stmt, ind-Stmt}
 use Rattle.br_flatimp.specs.Values.{Names}
 use Rattle.br_flatimp.specs.Parts.{written}

@@ -6,14 +6,11 @@ use Rattle.br_flatimp.specs.declared.program.Stmt.TheOpen.{Stmt-F}
 use Rattle.br_flatimp.specs.declared.program.Stmt.TheViews.{roll-Stmt}
 use Rattle.br_flatimp.specs.declared.program.Stmt.TheFolds.{fold-Stmt}
 use Rattle.br_flatimp.specs.declared.program.FlatFunc.{FlatFunc}
+pub use Rattle.br_flatimp.specs.Parts.{joined}
 use Rattle.br_flatimp.specs.Missed.{has_no_missed}
 
--- the statements of a part, of which each stands as a list
-abbrev pub joined : List (List Stmt) → List Stmt
-joined = flat_map (λ cs. cs)
-
--- A statement without the removable statements in it, which are Lit, Copy, Op, Load and Table: none where it
--- is one of them.
+-- A statement without the removable statements in it, which are Lit, Copy, Op, Load
+-- and Table: none where it is one of them.
 abbrev pub others_step : Stmt-F (List Stmt) → List Stmt
 others_step (Stmt-F.Lit x n) = []
 others_step (Stmt-F.Copy x y) = []
@@ -22,8 +19,10 @@ others_step (Stmt-F.Load x size y offset) = []
 others_step (Stmt-F.Table x size bytes y) = []
 others_step (Stmt-F.Store size y z offset) = roll-Stmt (Stmt-F.Store size y z offset) ∷ []
 others_step (Stmt-F.Stackalloc x n body) = roll-Stmt (Stmt-F.Stackalloc x n (joined body)) ∷ []
-others_step (Stmt-F.If test first second) = roll-Stmt (Stmt-F.If test (joined first) (joined second)) ∷ []
-others_step (Stmt-F.Loop first test last) = roll-Stmt (Stmt-F.Loop (joined first) test (joined last)) ∷ []
+others_step (Stmt-F.If test first second) =
+    roll-Stmt (Stmt-F.If test (joined first) (joined second)) ∷ []
+others_step (Stmt-F.Loop first test last) =
+    roll-Stmt (Stmt-F.Loop (joined first) test (joined last)) ∷ []
 others_step (Stmt-F.Call xs g ys) = roll-Stmt (Stmt-F.Call xs g ys) ∷ []
 others_step (Stmt-F.Read x y) = roll-Stmt (Stmt-F.Read x y) ∷ []
 others_step (Stmt-F.Write y z) = roll-Stmt (Stmt-F.Write y z) ∷ []

@@ -1,6 +1,8 @@
--- What one sweep leaves of statements. It goes from the last statement to the first with what is live after
--- each, and leaves out a removable one that writes no live name; what that one reads is not live for its sake.
-use Rattle.std.specs.Prelude.{Bool, false, not, ◌&&◌, ◌||◌, List, [], ◌∷◌, map, Option, Some, None, if◌then◌else◌}
+-- What one sweep leaves of statements. It goes from the last statement to the first with
+-- what is live after each, and leaves out a removable one that writes no live name; what
+-- that one reads is not live for its sake.
+use Rattle.std.specs.Prelude.{Bool, false, not, ◌&&◌, ◌||◌, List, [], ◌∷◌}
+use Rattle.std.specs.Prelude.{map, Option, Some, None, if◌then◌else◌}
 use Rattle.std.specs.List.{list_any}
 use Rattle.br_flatimp.specs.declared.program.Cond.{Cond}
 use Rattle.br_flatimp.specs.declared.program.Stmt.{Stmt, map-Stmt}
@@ -10,7 +12,8 @@ use Rattle.br_flatimp.specs.declared.program.Stmt.TheFolds.{fold-Stmt}
 use Rattle.br_flatimp.specs.declared.program.FlatFunc.{FlatFunc}
 use Rattle.br_flatimp.specs.Values.{Names}
 use Rattle.br_flatimp.specs.Parts.{written, read, test_names}
-use Rattle.br_flatimp.specs.Liveness.{is_in, is_removable, union, without, Live, entry, at_test, live_step}
+use Rattle.br_flatimp.specs.Liveness.{is_in, is_removable, union, without}
+use Rattle.br_flatimp.specs.Liveness.{Live, entry, at_test, live_step}
 
 -- it does nothing else than to write names, and none of them is live after it
 abbrev pub is_idle : {X : Type 0} → Stmt-F X → Names → Bool
@@ -48,8 +51,8 @@ abbrev pub any_left_out : List Swept → Names → Bool
 any_left_out [] end = false
 any_left_out (c ∷ rest) end = any_left_out rest end || c.leaves_out (entry_left rest end)
 
--- What is live at a loop's test, by all statements of its parts, so that it is enough for what is left of
--- them.
+-- What is live at a loop's test, by all statements of its parts, so that
+-- it is enough for what is left of them.
 abbrev pub swept_test : List Swept → Cond → List Swept → Names → Names
 swept_test first test last after = at_test (lives_in first) test (lives_in last) after
 
@@ -61,13 +64,15 @@ abbrev pub before_kept : Stmt-F Swept → Names → Names
 before_kept (Stmt-F.Stackalloc x n body) after = without (entry_left body after) (x ∷ [])
 before_kept (Stmt-F.If test first second) after =
     union (is_in (test_names test)) (union (entry_left first after) (entry_left second after))
-before_kept (Stmt-F.Loop first test last) after = entry_left first (swept_test first test last after)
+before_kept (Stmt-F.Loop first test last) after =
+    entry_left first (swept_test first test last after)
 before_kept y after = union (without after (written y)) (is_in (read y))
 
 -- a statement with what is left of its parts
 abbrev pub kept : Stmt-F Swept → Names → Stmt-F Stmt
 kept (Stmt-F.Stackalloc x n body) after = Stmt-F.Stackalloc x n (left_all body after)
-kept (Stmt-F.If test first second) after = Stmt-F.If test (left_all first after) (left_all second after)
+kept (Stmt-F.If test first second) after =
+    Stmt-F.If test (left_all first after) (left_all second after)
 kept (Stmt-F.Loop first test last) after =
     Stmt-F.Loop (left_all first (swept_test first test last after)) test
     (left_all last (swept_start first test last after))
@@ -84,9 +89,11 @@ kept (Stmt-F.Write y z) after = Stmt-F.Write y z
 -- a statement in the parts is left out
 abbrev pub inner_left_out : Stmt-F Swept → Names → Bool
 inner_left_out (Stmt-F.Stackalloc x n body) after = any_left_out body after
-inner_left_out (Stmt-F.If test first second) after = any_left_out second after || any_left_out first after
+inner_left_out (Stmt-F.If test first second) after =
+    any_left_out second after || any_left_out first after
 inner_left_out (Stmt-F.Loop first test last) after =
-    any_left_out last (swept_start first test last after) || any_left_out first (swept_test first test last after)
+    any_left_out last (swept_start first test last after)
+    || any_left_out first (swept_test first test last after)
 inner_left_out y after = false
 
 abbrev pub sweep_step : Stmt-F Swept → Swept

@@ -1,5 +1,6 @@
 -- What is left of a function where a set of names holds all that a statement which stays can need.
-use Rattle.std.specs.Prelude.{◌≡◌, Bool, true, ◌&&◌, ◌||◌, List, [], ◌∷◌, map, Option, Some, None, if◌then◌else◌, IsTrue, slice_get}
+use Rattle.std.specs.Prelude.{◌≡◌, Bool, true, ◌&&◌, ◌||◌, List, [], ◌∷◌, map}
+use Rattle.std.specs.Prelude.{Option, Some, None, if◌then◌else◌, IsTrue, slice_get}
 use Rattle.std.specs.List.{list_all}
 use Rattle.br_flatimp.specs.declared.program.Stmt.{Stmt}
 use Rattle.br_flatimp.specs.declared.program.Stmt.TheOpen.{Stmt-F}

@@ -1,5 +1,5 @@
-// Which names of a function are needed: those that are read by what stays, and by what writes these. What
-// is said here is checked where it is used, so it has no contract.
+// Which names of a function are needed: those that are read by what stays, and by what writes
+// these. What is said here is checked where it is used, so it has no contract.
 
 use br_base::NoMemory;
 use br_flatimp::{Cond, FlatFunc, Operand, Stmt};
@@ -8,7 +8,8 @@ use std::alloc::Global;
 // No next read.
 const NONE: usize = usize::MAX;
 
-// A read of a name by a removable statement, and where the next one with the same written name stands.
+// A read of a name by a removable statement, and where the next
+// one with the same written name stands.
 #[derive(Clone, Copy)]
 struct Reading {
     name: u32,

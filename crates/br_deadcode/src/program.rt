@@ -17,10 +17,10 @@ use br_live::names_are_below;
 use sqlite_items::Items;
 use std::alloc::Global;
 
-/// A program without dead statements: a Lit, Copy, Op, Load or Table goes where no name that it writes
-/// is live after it, again and again, so that none such is left. All other statements stay. The
-/// program means the same at the same fuel, its sizes and callees do not grow, and where no operand of
-/// a function is missed, none of the answer's is. Answers want of memory alone.
+/// A program without dead statements: a Lit, Copy, Op, Load or Table goes where no name that it
+/// writes is live after it, again and again, so that none such is left. All other statements stay.
+/// The program means the same at the same fuel, its sizes and callees do not grow, and where no
+/// operand of a function is missed, none of the answer's is. Answers want of memory alone.
 pub fn remove_dead(alloc: Global, p: FlatProgram) -> Result<FlatProgram, NoMemory>
     requires { IsWellFormed p.funcs }
     ensures well_formed { IfOk result (λ q. IsWellFormed q.funcs) }

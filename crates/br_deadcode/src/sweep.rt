@@ -7,7 +7,8 @@ ghost use Rattle.br_flatimp.specs.Parts.{function_names, statement_names};
 ghost use Rattle.br_flatimp.specs.WellFormed.{are_below};
 ghost use Rattle.br_live.specs.Summaries.{handed};
 ghost use Rattle.br_live.specs.Turns.{EndsWith, LoopTurn, all_turns, turn_of, turns_of};
-ghost use Rattle.br_deadcode.specs.Sweeps.{before_left, function_leaves, leaves_of, left_of, put, sweep, swept_function};
+ghost use Rattle.br_deadcode.specs.Sweeps.{before_left, function_leaves, leaves_of};
+ghost use Rattle.br_deadcode.specs.Sweeps.{left_of, put, sweep, swept_function};
 
 use crate::copies::copy;
 use crate::dead::is_idle;

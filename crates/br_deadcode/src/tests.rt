@@ -15,7 +15,8 @@ fn one(alloc: Global, s: Stmt) -> Result<Items<Stmt>, Fail> {
     Ok(body)
 }
 
-// What is left of a function with ten names, of which 0 and 1 are its arguments and 9 is its result.
+// What is left of a function with ten names, of which 0 and 1
+// are its arguments and 9 is its result.
 fn left(rt: &impl Abort, alloc: Global, body: Items<Stmt>) -> Result<Items<Stmt>, Fail> {
     let mut funcs = Items::new(alloc);
     funcs.push(FlatFunc {
@@ -53,8 +54,8 @@ fn same(
     Ok(())
 }
 
-// A chain of statements of which each reads what the one before writes goes in one sweep, also where it
-// writes one name again and again.
+// A chain of statements of which each reads what the one before writes goes in one sweep, also
+// where it writes one name again and again.
 #[test]
 fn chains_go(rt: HostRuntime) -> Result<(), Fail> {
     let alloc = rt.alloc();
@@ -68,8 +69,8 @@ fn chains_go(rt: HostRuntime) -> Result<(), Fail> {
     same(&rt, alloc, &made, &one(alloc, Stmt::Lit(9, 4))?)
 }
 
-// What is read later stays, whatever stands between, and so do statements that do more than to write a
-// name: a read, a write, a store, a call and a loop.
+// What is read later stays, whatever stands between, and so do statements that do more than to
+// write a name: a read, a write, a store, a call and a loop.
 #[test]
 fn others_stay(rt: HostRuntime) -> Result<(), Fail> {
     let alloc = rt.alloc();
@@ -92,8 +93,9 @@ fn kept(alloc: Global) -> Result<Items<Stmt>, Fail> {
     Ok(body)
 }
 
-// Copies that carry a value around a loop, each to the next, and that nothing else reads, go one turn
-// after the other. A name that is written in one part of a conditional and read after it stays there.
+// Copies that carry a value around a loop, each to the next, and that nothing else
+// reads, go one turn after the other. A name that is written in one part of a
+// conditional and read after it stays there.
 #[test]
 fn parts_go(rt: HostRuntime) -> Result<(), Fail> {
     let alloc = rt.alloc();

@@ -8,7 +8,8 @@ ghost use Rattle.br_flatimp.specs.Sizes.{Kept};
 ghost use Rattle.br_flatimp.specs.WellFormed.{IsWellFormed};
 ghost use Rattle.br_deadcode.specs.LeftOut.{HasSameOthers, InPairs, MissesNoMore};
 ghost use Rattle.br_deadcode.specs.Sweeps.{idle};
-ghost use Rattle.br_deadcode.specs.Unneeded.{IsTrimmed, is_closed, is_closed_function, listed, trim, trimmed};
+ghost use Rattle.br_deadcode.specs.Unneeded.{IsTrimmed, is_closed, is_closed_function};
+ghost use Rattle.br_deadcode.specs.Unneeded.{listed, trim, trimmed};
 
 use crate::copies::copy;
 use crate::needed::needed_names;
@@ -17,9 +18,9 @@ use br_flatimp::{Cond, FlatFunc, FlatProgram, Operand, Stmt};
 use sqlite_items::Items;
 use std::alloc::Global;
 
-/// A program without the statements that write a name which no statement that stays can need, all at
-/// once. Where a value goes from name to name around a loop and none of them is needed, all of these
-/// statements go, of which a sweep would find only the last.
+/// A program without the statements that write a name which no statement that stays can need, all
+/// at once. Where a value goes from name to name around a loop and none of them is needed, all of
+/// these statements go, of which a sweep would find only the last.
 pub(crate) fn remove_unneeded(alloc: Global, p: FlatProgram) -> Result<FlatProgram, NoMemory>
     requires { IsWellFormed p.funcs }
     ensures well_formed { IfOk result (λ q. IsWellFormed q.funcs) }

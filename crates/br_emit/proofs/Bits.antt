@@ -1,9 +1,12 @@
 -- Bits of words as registers of sets.
-use Rattle.std.proofs.Common.{◌≡◌, ℕ, zero, suc, ◌+◌, ◌-◌, ◌*◌, ◌%◌, ◌^◌, ◌<◌, ◌≤◌, min, max, nat_lt, Bool, true, false, not, ◌&&◌, ◌||◌, ◌==◌, List, [], ◌∷◌, ◌++◌, length, drop, get_or, refl, sym, ap, subst, ◌∙◌, arith, bit_and, bit_or, ◌≢◌}
+use Rattle.std.proofs.Common.{◌≡◌, ℕ, zero, suc, ◌+◌, ◌-◌, ◌*◌, ◌%◌, ◌^◌, ◌<◌, ◌≤◌, min, max, nat_lt}
+use Rattle.std.proofs.Common.{Bool, true, false, not, ◌&&◌, ◌||◌, ◌==◌, List, [], ◌∷◌, ◌++◌, length}
+use Rattle.std.proofs.Common.{drop, get_or, refl, sym, ap, subst, ◌∙◌, arith, bit_and, bit_or, ◌≢◌}
 use Rattle.std.specs.Int.{bit_at, bit_not, w32}
 use Rattle.std.proofs.lemmas.Grind.{common_steps}
 use Rattle.std.proofs.lemmas.Bool.Decides.{nat_tests}
-use Rattle.std.proofs.lemmas.Nat.Bits.{bit_at_or, bit_at_and, bit_at_not, bit_at-lt, bit_at-zero, bit_at_ones, bit_at_set_same, bit_at_set_other}
+use Rattle.std.proofs.lemmas.Nat.Bits.{bit_at_or, bit_at_and, bit_at_not, bit_at-lt, bit_at-zero}
+use Rattle.std.proofs.lemmas.Nat.Bits.{bit_at_ones, bit_at_set_same, bit_at_set_other}
 use Rattle.br_flatimp.specs.Liveness.{is_in}
 use Rattle.br_emit.specs.Registers.{has}
 
@@ -34,7 +37,8 @@ bit-or a b i = ap (λ n. n == 1) (bit_at_or a b i) ∙ or_one (bit_at a i) (bit_
 bit-and : (a b i : ℕ) → (bit_at (bit_and a b) i == 1) ≡ ((bit_at a i == 1) && (bit_at b i == 1))
 bit-and a b i = ap (λ n. n == 1) (bit_at_and a b i) ∙ and_one (bit_at a i) (bit_at b i) (bit_at-lt a i) (bit_at-lt b i)
 
-bit-without : (a b i : ℕ) → b < 2 ^ 32 → i < 32 → (bit_at (bit_and a (bit_not w32 b)) i == 1) ≡ ((bit_at a i == 1) && not (bit_at b i == 1))
+bit-without : (a b i : ℕ) → b < 2 ^ 32 → i < 32
+    → (bit_at (bit_and a (bit_not w32 b)) i == 1) ≡ ((bit_at a i == 1) && not (bit_at b i == 1))
 bit-without a b i h k =
     bit-and a (bit_not w32 b) i
     ∙ ap (λ n. (bit_at a i == 1) && (n == 1)) (bit_at_not w32 b i h k)
@@ -83,7 +87,8 @@ has-and a b x = by (nat_lt x 32)
 pub has-without : (a b x : ℕ) → b < 2 ^ 32 → has (bit_and a (bit_not w32 b)) x ≡ (has a x && not (has b x))
 has-without a b x h = by (nat_lt x 32) refl
   where
-    by : (t : Bool) → nat_lt x 32 ≡ t → (t && (bit_at (bit_and a (bit_not w32 b)) x == 1)) ≡ ((t && (bit_at a x == 1)) && not (t && (bit_at b x == 1)))
+    by : (t : Bool) → nat_lt x 32 ≡ t → (t && (bit_at (bit_and a (bit_not w32 b)) x == 1))
+        ≡ ((t && (bit_at a x == 1)) && not (t && (bit_at b x == 1)))
     by true e = bit-without a b x h (below x e)
     by false e = refl
 
@@ -98,11 +103,13 @@ has-just x y h k = by (x == y) refl
     by : (t : Bool) → (x == y) ≡ t → has (1 * 2 ^ x % 2 ^ 32) y ≡ (t || false)
     by true e =
         let same : x ≡ y = grind (arith, nat_tests) in
-        let one : bit_at (1 * 2 ^ x % 2 ^ 32) y ≡ 1 = sym (none (1 * 2 ^ x % 2 ^ 32)) ∙ subst (λ q. bit_at (bit_or 0 (1 * 2 ^ x % 2 ^ 32)) q ≡ 1) same (bit_at_set_same w32 0 x h) in
+        let one : bit_at (1 * 2 ^ x % 2 ^ 32) y ≡ 1 = sym (none (1 * 2 ^ x % 2 ^ 32))
+        ∙ subst (λ q. bit_at (bit_or 0 (1 * 2 ^ x % 2 ^ 32)) q ≡ 1) same (bit_at_set_same w32 0 x h) in
         has-bit (1 * 2 ^ x % 2 ^ 32) y k ∙ ap (λ n. n == 1) one
     by false e =
         let other : y ≢ x = λ s. differs (sym s) e in
-        let zero : bit_at (1 * 2 ^ x % 2 ^ 32) y ≡ 0 = sym (none (1 * 2 ^ x % 2 ^ 32)) ∙ bit_at_set_other w32 0 x h y other ∙ bit_at-zero y in
+        let zero : bit_at (1 * 2 ^ x % 2 ^ 32) y ≡ 0 = sym (none (1 * 2 ^ x % 2 ^ 32))
+        ∙ bit_at_set_other w32 0 x h y other ∙ bit_at-zero y in
         has-bit (1 * 2 ^ x % 2 ^ 32) y k ∙ ap (λ n. n == 1) zero
       where
         differs : x ≡ y → (x == y) ≡ false → ⊥
@@ -114,7 +121,8 @@ pub in-append : (xs ys : List ℕ) (y : ℕ) → is_in (xs ++ ys) y ≡ (is_in x
 in-append [] ys y = refl
 in-append (x ∷ xs) ys y = by (x == y) (in-append xs ys y)
   where
-    by : (t : Bool) → is_in (xs ++ ys) y ≡ (is_in xs y || is_in ys y) → (t || is_in (xs ++ ys) y) ≡ ((t || is_in xs y) || is_in ys y)
+    by : (t : Bool) → is_in (xs ++ ys) y ≡ (is_in xs y || is_in ys y)
+        → (t || is_in (xs ++ ys) y) ≡ ((t || is_in xs y) || is_in ys y)
     by true h = refl
     by false h = h
 
@@ -130,8 +138,10 @@ three false false r = refl
 next : (xs : List ℕ) (k d : ℕ) → k < length xs → drop k xs ≡ get_or xs k d ∷ drop (k + 1) xs
 next xs k d inside = grind (arith, common_steps)
 
-pub set_step : (xs : List ℕ) (i set set' one x : ℕ) (whole : ℕ → Bool) → i < length xs → x ≡ get_or xs i 0 → ((y : ℕ) → has set' y ≡ (has set y || has one y))
-    → ((y : ℕ) → y < 32 → has one y ≡ is_in (x ∷ []) y) → ((y : ℕ) → y < 32 → (has set y || is_in (drop i xs) y) ≡ whole y)
+pub set_step : (xs : List ℕ) (i set set' one x : ℕ) (whole : ℕ → Bool) → i < length xs → x ≡ get_or xs i 0
+    → ((y : ℕ) → has set' y ≡ (has set y || has one y))
+    → ((y : ℕ) → y < 32 → has one y ≡ is_in (x ∷ []) y)
+    → ((y : ℕ) → y < 32 → (has set y || is_in (drop i xs) y) ≡ whole y)
     → (y : ℕ) → y < 32 → (has set' y || is_in (drop (i + 1) xs) y) ≡ whole y
 set_step xs i set set' one x whole inside is joined here so_far y below =
     let rest = drop (i + 1) xs in

@@ -1,5 +1,7 @@
 -- Reads and writes of device words, in code.
-use Rattle.std.proofs.Common.{◌≡◌, ◌⊎◌, inl, inr, ℕ, ◌+◌, ◌-◌, ◌*◌, ◌%◌, ◌^◌, ◌<◌, ◌≤◌, ◌==◌, nat_lt, nat_le, ◌&&◌, ◌||◌, if◌then◌else◌, List, [], ◌∷◌, ◌++◌, length, Option, Some, None, Bool, true, false, IsTrue, refl, sym, ap, subst, ◌∙◌, arith, pos}
+use Rattle.std.proofs.Common.{◌≡◌, ◌⊎◌, inl, inr, ℕ, ◌+◌, ◌-◌, ◌*◌, ◌%◌, ◌^◌, ◌<◌, ◌≤◌, ◌==◌, nat_lt}
+use Rattle.std.proofs.Common.{nat_le, ◌&&◌, ◌||◌, if◌then◌else◌, List, [], ◌∷◌, ◌++◌, length, Option, Some}
+use Rattle.std.proofs.Common.{None, Bool, true, false, IsTrue, refl, sym, ap, subst, ◌∙◌, arith, pos}
 use Rattle.std.specs.Prelude.{slice_get}
 use Rattle.std.proofs.lemmas.Bool.{ltb-true}
 use Rattle.std.proofs.lemmas.Bool.Decides.{nat_tests}
@@ -8,7 +10,8 @@ use Rattle.br_words.specs.Device.{in_device_window, is_device_word}
 use Rattle.br_bytes.specs.declared.run.Event.TheVariants as event
 use Rattle.br_bytes.specs.declared.run.Choice.{Choice}
 use Rattle.br_bytes.specs.Number.{number_of, low_bytes}
-use Rattle.br_bytes.specs.Runs.{Waiting, Undefined, Goes, Ends, with_defined, choose, read_device, write_device, happens}
+use Rattle.br_bytes.specs.Runs.{Waiting, Undefined, Goes, Ends, with_defined}
+use Rattle.br_bytes.specs.Runs.{choose, read_device, write_device, happens}
 use Rattle.br_flatimp.specs.declared.program.Stmt.TheOpen.{Stmt-F}
 use Rattle.br_flatimp.specs.Values.{with_local}
 use Rattle.br_flatimp.specs.WellFormed.{are_registers}
@@ -25,10 +28,12 @@ use Rattle.br_machine.specs.Effects.{effect, computes, moved_on, device_read}
 use Rattle.br_machine.specs.Step.{step, obey}
 use Rattle.br_machine.specs.Steps.{IsAbove}
 use Rattle.br_emit.specs.Code.{Does, statement_items, Targets}
-use Rattle.br_emit.proofs.Stepping.{machine, at, put, register-machine, with_register-machine, reads-put_same, reads-put_other, within_code, step-at, steps_by}
+use Rattle.br_emit.proofs.Stepping.{machine, at, put, register-machine, with_register-machine}
+use Rattle.br_emit.proofs.Stepping.{reads-put_same, reads-put_other, within_code, step-at, steps_by}
 use Rattle.br_emit.proofs.Pieces.{Ground, Placed, Ready, Stands, kept_refl, Shown, On, Out, Simulates, given, runs_one}
 use Rattle.br_emit.proofs.Setting.{ready_runs, good_of}
-use Rattle.br_emit.proofs.Leaves.{both, Touches, true_false, IsName, first_name, nonzero, name_value, wrong_at_once, values_set}
+use Rattle.br_emit.proofs.Leaves.{both, Touches, true_false, IsName, first_name}
+use Rattle.br_emit.proofs.Leaves.{nonzero, name_value, wrong_at_once, values_set}
 
 -- what a device word is to the machine
 record Device (a : ℕ) : Type 0 where
@@ -53,12 +58,19 @@ device a h =
 
     below : (a : ℕ) → in_device_window a ≡ true → a < 0x10025000
     below a h =
-        elim (either (nat_le 0x10012000 a && nat_lt a 0x10013000 || nat_le 0x10013000 a && nat_lt a 0x10014000) (nat_le 0x10024000 a && nat_lt a 0x10025000) h) [
-          | inl p ↦ elim (either (nat_le 0x10012000 a && nat_lt a 0x10013000) (nat_le 0x10013000 a && nat_lt a 0x10014000) p) [
-            | inl q ↦ one a 0x10012000 0x10013000 0x10025000 (omega arith) (nat_le 0x10012000 a && nat_lt a 0x10013000) refl q
-            | inr q ↦ one a 0x10013000 0x10014000 0x10025000 (omega arith) (nat_le 0x10013000 a && nat_lt a 0x10014000) refl q
-          ]
-          | inr p ↦ one a 0x10024000 0x10025000 0x10025000 (omega arith) (nat_le 0x10024000 a && nat_lt a 0x10025000) refl p
+        elim (either (nat_le 0x10012000 a && nat_lt a 0x10013000 || nat_le 0x10013000 a && nat_lt a 0x10014000)
+        (nat_le 0x10024000 a && nat_lt a 0x10025000) h) [
+          | inl p ↦ elim (either (nat_le 0x10012000 a && nat_lt a 0x10013000)
+              (nat_le 0x10013000 a && nat_lt a 0x10014000) p) [
+                | inl q ↦
+                    one a 0x10012000 0x10013000 0x10025000 (omega arith)
+                    (nat_le 0x10012000 a && nat_lt a 0x10013000) refl q
+                | inr q ↦
+                    one a 0x10013000 0x10014000 0x10025000 (omega arith)
+                    (nat_le 0x10013000 a && nat_lt a 0x10014000) refl q
+              ]
+          | inr p ↦
+              one a 0x10024000 0x10025000 0x10025000 (omega arith) (nat_le 0x10024000 a && nat_lt a 0x10025000) refl p
         ]
 
 outside : (a : ℕ) → a < 0x10025000 → in_ram layout.Two a 4 ≡ false
@@ -81,7 +93,8 @@ fine_load a d = ap (λ t. if t then None else device_trap a 4) (outside a d.smal
 
 fine_store : (words a : ℕ) → Device a → store_trap layout.Two words a 4 ≡ None
 fine_store words a d =
-    ap (λ t. if t then (if meet a 4 0x80300000 (4 * words) then Some CodeWrite else None) else device_trap a 4) (outside a d.small) ∙ fine_device a d
+    ap (λ t. if t then (if meet a 4 0x80300000 (4 * words) then Some CodeWrite else None) else device_trap a 4)
+    (outside a d.small) ∙ fine_device a d
 
 above_device : (low a : ℕ) → a < 0x10025000 → IsAbove low (a, 4)
 above_device low a h b from to in_stack = absurd (omega arith)
@@ -97,27 +110,35 @@ choose_first false p q h = absurd (cc)
 
 -- ---- reads
 
-read_effect : (g : Ground) (j : ℕ) (registers ram : List ℕ) (x y a : ℕ) (next : Option ℕ) → plus (register (machine g.code j registers ram) y) (pos 0) ≡ a → Device a
-    → effect (Load Lw x y (pos 0)) (machine g.code j registers ram) next ≡ device_read x a (machine g.code j registers ram) next
+read_effect : (g : Ground) (j : ℕ) (registers ram : List ℕ) (x y a : ℕ) (next : Option ℕ)
+    → plus (register (machine g.code j registers ram) y) (pos 0) ≡ a → Device a
+    → effect (Load Lw x y (pos 0)) (machine g.code j registers ram) next
+    ≡ device_read x a (machine g.code j registers ram) next
 read_effect g j registers ram x y a next is d =
     let s = machine g.code j registers ram in
-    ap (λ q. if in_ram layout.Two q 4 then (computes x (number_of (bytes_from ram (q - 0x80100000) 4)) s, stepped.Ran) else device_read x q s next) is
-    ∙ ap (λ t. if t then (computes x (number_of (bytes_from ram (a - 0x80100000) 4)) s, stepped.Ran) else device_read x a s next) (outside a d.small)
+    ap (λ q. if in_ram layout.Two q 4 then (computes x (number_of (bytes_from ram (q - 0x80100000) 4)) s, stepped.Ran)
+    else device_read x q s next) is
+    ∙ ap (λ t. if t then (computes x (number_of (bytes_from ram (a - 0x80100000) 4)) s, stepped.Ran)
+    else device_read x a s next) (outside a d.small)
 
 same_address : (a : ℕ) → a < 0x10025000 → plus a (pos 0) ≡ a
 same_address a h = omega arith
 
 -- with answers told apart from the state
-read_shown : (g : Ground) (forgets : Forgets) (call : Callee) (x y a j b : ℕ) (s : State) (registers ram answers : List ℕ)
-    → IsName x → Touches g x → IsName y → Placed g.code j (Does (Load Lw x y (pos 0)) ∷ []) → s.locals y ≡ Some a → is_device_word a ≡ true
+read_shown : (g : Ground) (forgets : Forgets) (call : Callee) (x y a j b : ℕ) (s : State)
+    (registers ram answers : List ℕ)
+    → IsName x → Touches g x → IsName y → Placed g.code j (Does (Load Lw x y (pos 0)) ∷ []) → s.locals y ≡ Some a
+    → is_device_word a ≡ true
     → Ready g.code registers ram answers j → Stands b g.sp s registers ram
-    → Shown g (statement_step forgets call (Stmt-F.Read x y)) (record s { answers = answers }) (at g.code j registers ram answers s.trace) ram b (j + 1) 1
+    → Shown g (statement_step forgets call (Stmt-F.Read x y)) (record s { answers = answers })
+    (at g.code j registers ram answers s.trace) ram b (j + 1) 1
 read_shown g forgets call x y a j b s registers ram [] name touches name' placed e word ready stands =
     let d = device a word in
     let good = good_of g.code registers ram [] j ready in
     let m = machine g.code j registers ram in
     let is : plus (register m y) (pos 0) ≡ a =
-    ap (λ q. plus q (pos 0)) (register-machine g.code registers ram j y ∙ name_value s b g.sp registers ram y a stands name' e) ∙ same_address a d.small in
+    ap (λ q. plus q (pos 0)) (register-machine g.code registers ram j y
+    ∙ name_value s b g.sp registers ram y a stands name' e) ∙ same_address a d.small in
     let fine : trap_of (Load Lw x y (pos 0)) m ≡ None = ap (λ q. load_trap layout.Two q 4) is ∙ fine_load a d in
     let waits : step m None ≡ (m, stepped.Waiting a) =
     step-at g.table g.code registers ram j (Load Lw x y (pos 0)) None good placed.0 placed.1
@@ -128,8 +149,10 @@ read_shown g forgets call x y a j b s registers ram [] name touches name' placed
       after = record s { answers = [] };
       how = Waiting a;
       ends = λ rest.
-          ap (λ o. with_defined o (given (record s { answers = [] }) rest) (λ a. read_device (with_local x) a (given (record s { answers = [] }) rest))) e
-          ∙ ap (λ t. choose t (Ends (Waiting a) (given (record s { answers = [] }) rest)) (Ends Undefined (given (record s { answers = [] }) rest))) word;
+          ap (λ o. with_defined o (given (record s { answers = [] }) rest)
+          (λ a. read_device (with_local x) a (given (record s { answers = [] }) rest))) e
+          ∙ ap (λ t. choose t (Ends (Waiting a) (given (record s { answers = [] }) rest))
+          (Ends Undefined (given (record s { answers = [] }) rest))) word;
       registers = registers;
       ram' = ram;
       place = j;
@@ -150,73 +173,96 @@ read_shown g forgets call x y a j b s registers ram (v ∷ answers) name touches
     let here = within_code g.code j _ placed.0 in
     let m = machine g.code j registers ram in
     let is : plus (register m y) (pos 0) ≡ a =
-    ap (λ q. plus q (pos 0)) (register-machine g.code registers ram j y ∙ name_value s b g.sp registers ram y a stands name' e) ∙ same_address a d.small in
+    ap (λ q. plus q (pos 0)) (register-machine g.code registers ram j y
+    ∙ name_value s b g.sp registers ram y a stands name' e) ∙ same_address a d.small in
     let fine : trap_of (Load Lw x y (pos 0)) m ≡ None = ap (λ q. load_trap layout.Two q 4) is ∙ fine_load a d in
     let registers' = put x v registers in
     let trace' = s.trace ++ event.Read a v ∷ [] in
     let pc : (0x80300000 + 4 * j + 4) % 2 ^ 32 ≡ 0x80300000 + 4 * (j + 1) = omega arith in
     let moved : computes x v m ≡ machine g.code (j + 1) registers' ram =
     ap (λ q. with_register x v (record m { pc = q })) pc ∙ with_register-machine g.code registers ram (j + 1) x v in
-    let steps = steps_by g.table g.code registers ram (v ∷ answers) s.trace g.low j (Load Lw x y (pos 0)) (at g.code (j + 1) registers' ram answers trace') (computes x v m) (stepped.Read a v) good placed.0 placed.1 fine
+    let steps = steps_by g.table g.code registers ram (v ∷ answers) s.trace g.low j (Load Lw x y (pos 0)) (at g.code
+    (j + 1) registers' ram answers trace') (computes x v m) (stepped.Read a v) good placed.0 placed.1 fine
     (read_effect g j registers ram x y a (Some v) is d)
     (ap (λ q. Some (record { machine = q; answers = answers; trace = trace' })) moved) refl
     (subst (λ q. IsAbove g.low (q, 4)) (sym is) (above_device g.low a d.small)) in
-    let runs = runs_one g.low (at g.code j registers ram (v ∷ answers) s.trace) (at g.code (j + 1) registers' ram answers trace') steps in
+    let runs = runs_one g.low (at g.code j registers ram (v ∷ answers) s.trace)
+    (at g.code (j + 1) registers' ram answers trace') steps in
     let after : State = record s { locals = with_local x v s.locals; trace = trace'; answers = answers } in
     On (record {
       choices = [];
       chosen = tt;
       after = after;
       goes = λ rest.
-          ap (λ o. with_defined o (given (record s { answers = v ∷ answers }) rest) (λ a. read_device (with_local x) a (given (record s { answers = v ∷ answers }) rest))) e
-          ∙ ap (λ t. choose t (Goes (given after rest)) (Ends Undefined (given (record s { answers = v ∷ answers }) rest))) word;
+          ap (λ o. with_defined o (given (record s { answers = v ∷ answers }) rest)
+          (λ a. read_device (with_local x) a (given (record s { answers = v ∷ answers }) rest))) e
+          ∙ ap (λ t. choose t (Goes (given after rest))
+          (Ends Undefined (given (record s { answers = v ∷ answers }) rest))) word;
       registers = registers';
       ram' = ram;
       steps = 1;
       runs = runs;
       ready = ready_runs g registers ram (v ∷ answers) registers' ram answers s.trace trace' j (j + 1) 1 ready runs;
       stands = record {
-        values = values_set s.locals registers registers' x v stands.values (reads-put_same x v registers (nonzero x name) (omega arith)) (λ q ne one. reads-put_other x q v registers ne);
+        values = values_set s.locals registers registers' x v stands.values (reads-put_same x v registers
+            (nonzero x name) (omega arith)) (λ q ne one. reads-put_other x q v registers ne);
         held = stands.held;
         pointer = reads-put_other x 2 v registers (omega arith) ∙ stands.pointer;
       };
-      untouched = λ y low out. reads-put_other x y v registers (λ same. absurd (true_false (sym touches ∙ ap g.touched (sym same) ∙ out)));
+      untouched = λ y low out.
+          reads-put_other x y v registers (λ same. absurd (true_false (sym touches ∙ ap g.touched (sym same) ∙ out)));
       kept = kept_refl b s.memory ram;
       paced = record { takes = omega arith; least = omega arith; most = omega arith };
     })
 
-pub read_simulates : (g : Ground) (targets : Targets) (forgets : Forgets) (call : Callee) (x y : ℕ) → IsTrue (are_registers (x ∷ [])) → Touches g x → IsTrue (are_registers (y ∷ []))
+pub read_simulates : (g : Ground) (targets : Targets) (forgets : Forgets) (call : Callee) (x y : ℕ)
+    → IsTrue (are_registers (x ∷ [])) → Touches g x → IsTrue (are_registers (y ∷ []))
     → Simulates g (statement_step forgets call (Stmt-F.Read x y)) (statement_items targets (Stmt-F.Read x y)) 0 1
-read_simulates g targets forgets call x y named touches named' free j s registers ram room multiple inside deep placed ready stands = by (s.locals y) refl
+read_simulates g targets forgets call x y named touches named' free j s registers ram room multiple inside deep placed
+    ready stands = by (s.locals y) refl
   where
     word : (a : ℕ) → s.locals y ≡ Some a → (t : Bool) → is_device_word a ≡ t
-        → Shown g (statement_step forgets call (Stmt-F.Read x y)) s (at g.code j registers ram s.answers s.trace) ram (g.sp + free) (j + 1) 1
-    word a e false h = wrong_at_once g (statement_step forgets call (Stmt-F.Read x y)) s registers ram (g.sp + free) j (j + 1) 1
-        (λ rest. ap (λ o. with_defined o (given s rest) (λ a. read_device (with_local x) a (given s rest))) e ∙ choose_second (is_device_word a) _ _ h)
-    word a e true h = read_shown g forgets call x y a j (g.sp + free) s registers ram s.answers (first_name x [] named).0 touches (first_name y [] named').0 placed e h ready stands
+        → Shown g (statement_step forgets call (Stmt-F.Read x y)) s (at g.code j registers ram s.answers s.trace) ram
+        (g.sp + free) (j + 1) 1
+    word a e false h =
+        wrong_at_once g (statement_step forgets call (Stmt-F.Read x y)) s registers ram (g.sp + free) j (j + 1) 1
+        (λ rest. ap (λ o. with_defined o (given s rest) (λ a. read_device (with_local x) a (given s rest))) e
+        ∙ choose_second (is_device_word a) _ _ h)
+    word a e true h = read_shown g forgets call x y a j (g.sp + free) s registers ram s.answers
+        (first_name x [] named).0 touches (first_name y [] named').0 placed e h ready stands
 
     by : (o : Option ℕ) → s.locals y ≡ o
-        → Shown g (statement_step forgets call (Stmt-F.Read x y)) s (at g.code j registers ram s.answers s.trace) ram (g.sp + free) (j + 1) 1
-    by None e = wrong_at_once g (statement_step forgets call (Stmt-F.Read x y)) s registers ram (g.sp + free) j (j + 1) 1
+        → Shown g (statement_step forgets call (Stmt-F.Read x y)) s (at g.code j registers ram s.answers s.trace) ram
+        (g.sp + free) (j + 1) 1
+    by None e =
+        wrong_at_once g (statement_step forgets call (Stmt-F.Read x y)) s registers ram (g.sp + free) j (j + 1) 1
         (λ rest. ap (λ o. with_defined o (given s rest) (λ a. read_device (with_local x) a (given s rest))) e)
     by (Some a) e = word a e (is_device_word a) refl
 
 -- ---- writes
 
-pub write_simulates : (g : Ground) (targets : Targets) (forgets : Forgets) (call : Callee) (y z : ℕ) → IsTrue (are_registers (y ∷ z ∷ []))
+pub write_simulates : (g : Ground) (targets : Targets) (forgets : Forgets) (call : Callee) (y z : ℕ)
+    → IsTrue (are_registers (y ∷ z ∷ []))
     → Simulates g (statement_step forgets call (Stmt-F.Write y z)) (statement_items targets (Stmt-F.Write y z)) 0 1
-write_simulates g targets forgets call y z named free j s registers ram room multiple inside deep placed ready stands = by (s.locals y) (s.locals z) refl refl
+write_simulates g targets forgets call y z named free j s registers ram room multiple inside deep placed ready stands =
+    by (s.locals y) (s.locals z) refl refl
   where
     goes : (o p : Option ℕ) → s.locals y ≡ o → s.locals z ≡ p → (rest : List Choice)
-        → statement_step forgets call (Stmt-F.Write y z) (given s rest) ≡ with_defined o (given s rest) (λ a. with_defined p (given s rest) (λ v. write_device a v (given s rest)))
+        → statement_step forgets call (Stmt-F.Write y z) (given s rest)
+        ≡ with_defined o (given s rest) (λ a. with_defined p (given s rest) (λ v. write_device a v (given s rest)))
     goes o p e k rest =
-        ap (λ o. with_defined o (given s rest) (λ a. with_defined (s.locals z) (given s rest) (λ v. write_device a v (given s rest)))) e
-        ∙ ap (λ p. with_defined o (given s rest) (λ a. with_defined p (given s rest) (λ v. write_device a v (given s rest)))) k
+        ap (λ o. with_defined o (given s rest)
+        (λ a. with_defined (s.locals z) (given s rest) (λ v. write_device a v (given s rest)))) e
+        ∙ ap (λ p.
+        with_defined o (given s rest) (λ a. with_defined p (given s rest) (λ v. write_device a v (given s rest)))) k
 
     word : (a v : ℕ) → s.locals y ≡ Some a → s.locals z ≡ Some v → (t : Bool) → is_device_word a ≡ t
-        → Shown g (statement_step forgets call (Stmt-F.Write y z)) s (at g.code j registers ram s.answers s.trace) ram (g.sp + free) (j + 1) 1
-    word a v e k false h = wrong_at_once g (statement_step forgets call (Stmt-F.Write y z)) s registers ram (g.sp + free) j (j + 1) 1
-        (λ rest. goes (Some a) (Some v) e k rest ∙ ap (λ t. choose t (Goes (happens (event.Write a v) (given s rest))) (Ends Undefined (given s rest))) h)
+        → Shown g (statement_step forgets call (Stmt-F.Write y z)) s (at g.code j registers ram s.answers s.trace) ram
+        (g.sp + free) (j + 1) 1
+    word a v e k false h =
+        wrong_at_once g (statement_step forgets call (Stmt-F.Write y z)) s registers ram (g.sp + free) j (j + 1) 1
+        (λ rest. goes (Some a) (Some v) e k rest
+        ∙ ap (λ t. choose t (Goes (happens (event.Write a v) (given s rest))) (Ends Undefined (given s rest))) h)
     word a v e k true h =
         let two = first_name y (z ∷ []) named in
         let other = (first_name z [] two.1).0 in
@@ -227,24 +273,40 @@ write_simulates g targets forgets call y z named free j s registers ram room mul
         let here = within_code g.code j _ placed.0 in
         let m = machine g.code j registers ram in
         let is : plus (register m y) (pos 0) ≡ a =
-        ap (λ q. plus q (pos 0)) (register-machine g.code registers ram j y ∙ name_value s b g.sp registers ram y a stands two.0 e) ∙ same_address a d.small in
-        let also : register m z ≡ v = register-machine g.code registers ram j z ∙ name_value s b g.sp registers ram z v stands other k in
-        let fine : trap_of (Store Sw y z (pos 0)) m ≡ None = ap (λ q. store_trap layout.Two (length g.code) q 4) is ∙ fine_store (length g.code) a d in
+        ap (λ q. plus q (pos 0)) (register-machine g.code registers ram j y
+        ∙ name_value s b g.sp registers ram y a stands two.0 e) ∙ same_address a d.small in
+        let also : register m z ≡ v = register-machine g.code registers ram j z
+        ∙ name_value s b g.sp registers ram z v stands other k in
+        let fine : trap_of (Store Sw y z (pos 0)) m ≡ None = ap (λ q. store_trap layout.Two (length g.code) q 4) is
+        ∙ fine_store (length g.code) a d in
         let trace' = s.trace ++ event.Write a v ∷ [] in
         let does : effect (Store Sw y z (pos 0)) m (slice_get s.answers 0) ≡ (moved_on m, stepped.Wrote a v) =
-        ap (λ q. if in_ram layout.Two q 4 then (record (moved_on m) { ram = with_bytes_from ram (q - 0x80100000) (low_bytes 4 (register m z)) }, stepped.Ran) else (moved_on m, stepped.Wrote q (register m z))) is
-        ∙ ap (λ t. if t then (record (moved_on m) { ram = with_bytes_from ram (a - 0x80100000) (low_bytes 4 (register m z)) }, stepped.Ran) else (moved_on m, stepped.Wrote a (register m z))) (outside a d.small)
+        ap (λ q. if in_ram layout.Two q 4 then (
+          record (moved_on m) {
+            ram = with_bytes_from ram (q - 0x80100000)
+                (low_bytes 4 (register m z));
+          },
+          stepped.Ran,
+        ) else (moved_on m, stepped.Wrote q (register m z))) is
+        ∙ ap (λ t. if t
+        then (
+          record (moved_on m) { ram = with_bytes_from ram (a - 0x80100000) (low_bytes 4 (register m z)) },
+          stepped.Ran,
+        ) else (moved_on m, stepped.Wrote a (register m z))) (outside a d.small)
         ∙ ap (λ w. (moved_on m, stepped.Wrote a w)) also in
         let pc : (0x80300000 + 4 * j + 4) % 2 ^ 32 ≡ 0x80300000 + 4 * (j + 1) = omega arith in
-        let steps = steps_by g.table g.code registers ram s.answers s.trace g.low j (Store Sw y z (pos 0)) (at g.code (j + 1) registers ram s.answers trace') (moved_on m) (stepped.Wrote a v) good placed.0 placed.1 fine does
+        let steps = steps_by g.table g.code registers ram s.answers s.trace g.low j (Store Sw y z (pos 0)) (at g.code
+        (j + 1) registers ram s.answers trace') (moved_on m) (stepped.Wrote a v) good placed.0 placed.1 fine does
         (ap (λ q. Some (record { machine = record m { pc = q }; answers = s.answers; trace = trace' })) pc) refl
         (subst (λ q. IsAbove g.low (q, 4)) (sym is) (above_device g.low a d.small)) in
-        let runs = runs_one g.low (at g.code j registers ram s.answers s.trace) (at g.code (j + 1) registers ram s.answers trace') steps in
+        let runs = runs_one g.low (at g.code j registers ram s.answers s.trace)
+        (at g.code (j + 1) registers ram s.answers trace') steps in
         On (record {
           choices = [];
           chosen = tt;
           after = happens (event.Write a v) s;
-          goes = λ rest. goes (Some a) (Some v) e k rest ∙ ap (λ t. choose t (Goes (happens (event.Write a v) (given s rest))) (Ends Undefined (given s rest))) h;
+          goes = λ rest. goes (Some a) (Some v) e k rest
+              ∙ ap (λ t. choose t (Goes (happens (event.Write a v) (given s rest))) (Ends Undefined (given s rest))) h;
           registers = registers;
           ram' = ram;
           steps = 1;
@@ -257,7 +319,10 @@ write_simulates g targets forgets call y z named free j s registers ram room mul
         })
 
     by : (o p : Option ℕ) → s.locals y ≡ o → s.locals z ≡ p
-        → Shown g (statement_step forgets call (Stmt-F.Write y z)) s (at g.code j registers ram s.answers s.trace) ram (g.sp + free) (j + 1) 1
-    by None p e k = wrong_at_once g (statement_step forgets call (Stmt-F.Write y z)) s registers ram (g.sp + free) j (j + 1) 1 (goes None p e k)
-    by (Some a) None e k = wrong_at_once g (statement_step forgets call (Stmt-F.Write y z)) s registers ram (g.sp + free) j (j + 1) 1 (goes (Some a) None e k)
+        → Shown g (statement_step forgets call (Stmt-F.Write y z)) s (at g.code j registers ram s.answers s.trace) ram
+        (g.sp + free) (j + 1) 1
+    by None p e k = wrong_at_once g (statement_step forgets call (Stmt-F.Write y z)) s registers ram (g.sp + free) j
+        (j + 1) 1 (goes None p e k)
+    by (Some a) None e k = wrong_at_once g (statement_step forgets call (Stmt-F.Write y z)) s registers ram
+        (g.sp + free) j (j + 1) 1 (goes (Some a) None e k)
     by (Some a) (Some v) e k = word a v e k (is_device_word a) refl

@@ -1,5 +1,7 @@
 -- The memory of a flat program in the RAM of the machine.
-use Rattle.std.proofs.Common.{◌≡◌, ◌≢◌, ◌⊎◌, inl, inr, ℕ, zero, suc, ◌+◌, ◌-◌, ◌/◌, ◌%◌, ◌^◌, ◌<◌, ◌≤◌, List, [], ◌∷◌, length, drop, Option, Some, None, Bool, true, false, not, ◌&&◌, nat_le, nat_lt, cond, refl, sym, ap, subst, ◌∙◌, arith}
+use Rattle.std.proofs.Common.{◌≡◌, ◌≢◌, ◌⊎◌, inl, inr, ℕ, zero, suc, ◌+◌, ◌-◌, ◌/◌, ◌%◌, ◌^◌, ◌<◌}
+use Rattle.std.proofs.Common.{◌≤◌, List, [], ◌∷◌, length, drop, Option, Some, None, Bool, true, false}
+use Rattle.std.proofs.Common.{not, ◌&&◌, nat_le, nat_lt, cond, refl, sym, ap, subst, ◌∙◌, arith}
 use Rattle.std.specs.Prelude.{slice_index, slice_set}
 use Rattle.std.proofs.Math.ListN.{length-set}
 use Rattle.std.proofs.lemmas.Bool.Decides.{nat_tests}
@@ -28,7 +30,8 @@ length-with_bytes_from [] ram p = refl
 length-with_bytes_from (b ∷ bs) ram p = length-with_bytes_from bs (slice_set ram p b) (p + 1) ∙ length-set ram p b
 
 -- a place outside the bytes
-pub index-with_bytes_from : (bs ram : List ℕ) (p q : ℕ) → (q < p) ⊎ (p + length bs ≤ q) → slice_index (with_bytes_from ram p bs) q ≡ slice_index ram q
+pub index-with_bytes_from : (bs ram : List ℕ) (p q : ℕ) → (q < p) ⊎ (p + length bs ≤ q)
+    → slice_index (with_bytes_from ram p bs) q ≡ slice_index ram q
 index-with_bytes_from [] ram p q apart = refl
 index-with_bytes_from (b ∷ bs) ram p q apart =
     index-with_bytes_from bs (slice_set ram p b) (p + 1) q (further apart) ∙ get_or-set_other ram p q b 0 (other apart)
@@ -42,21 +45,25 @@ index-with_bytes_from (b ∷ bs) ram p q apart =
     other (inr h) = omega arith
 
 -- a place among the bytes
-pub index-written : (bs ram : List ℕ) (p i : ℕ) → i < length bs → p + length bs ≤ length ram → slice_index (with_bytes_from ram p bs) (p + i) ≡ slice_index bs i
+pub index-written : (bs ram : List ℕ) (p i : ℕ) → i < length bs → p + length bs ≤ length ram
+    → slice_index (with_bytes_from ram p bs) (p + i) ≡ slice_index bs i
 index-written [] ram p i l room = absurd (omega arith)
 index-written (b ∷ bs) ram p zero l room =
     let here : p + 0 ≡ p = omega arith in
     ap (slice_index (with_bytes_from (slice_set ram p b) (p + 1) bs)) here
-    ∙ index-with_bytes_from bs (slice_set ram p b) (p + 1) p (inl (omega arith)) ∙ get_or-set_same ram p b 0 (omega arith)
+    ∙ index-with_bytes_from bs (slice_set ram p b) (p + 1) p (inl (omega arith))
+    ∙ get_or-set_same ram p b 0 (omega arith)
 index-written (b ∷ bs) ram p (suc i) l room =
     let there : p + suc i ≡ p + 1 + i = omega arith in
     ap (slice_index (with_bytes_from (slice_set ram p b) (p + 1) bs)) there
     ∙ index-written bs (slice_set ram p b) (p + 1) i (omega arith) (omega (arith, length-set ram p b))
 
 -- the back of RAM after the bytes stays
-pub drop-with_bytes_from : (bs ram : List ℕ) (n p : ℕ) → p + length bs ≤ n → drop n (with_bytes_from ram p bs) ≡ drop n ram
+pub drop-with_bytes_from : (bs ram : List ℕ) (n p : ℕ) → p + length bs ≤ n
+    → drop n (with_bytes_from ram p bs) ≡ drop n ram
 drop-with_bytes_from [] ram n p h = refl
-drop-with_bytes_from (b ∷ bs) ram n p h = drop-with_bytes_from bs (slice_set ram p b) n (p + 1) (omega arith) ∙ drop-set-lt n ram p b (omega arith)
+drop-with_bytes_from (b ∷ bs) ram n p h =
+    drop-with_bytes_from bs (slice_set ram p b) n (p + 1) (omega arith) ∙ drop-set-lt n ram p b (omega arith)
 
 pub length-bytes_from : (ram : List ℕ) (n p : ℕ) → length (bytes_from ram p n) ≡ n
 length-bytes_from ram zero p = refl
@@ -65,7 +72,8 @@ length-bytes_from ram (suc n) p = let is = length-bytes_from ram n (p + 1) in om
 pub index-bytes_from : (ram : List ℕ) (n p i : ℕ) → i < n → slice_index (bytes_from ram p n) i ≡ slice_index ram (p + i)
 index-bytes_from ram zero p i l = absurd (omega arith)
 index-bytes_from ram (suc n) p zero l = ap (slice_index ram) (omega arith)
-index-bytes_from ram (suc n) p (suc i) l = index-bytes_from ram n (p + 1) i (omega arith) ∙ ap (slice_index ram) (omega arith)
+index-bytes_from ram (suc n) p (suc i) l =
+    index-bytes_from ram n (p + 1) i (omega arith) ∙ ap (slice_index ram) (omega arith)
 
 pub length-low_bytes : (n v : ℕ) → length (low_bytes n v) ≡ n
 length-low_bytes zero v = refl
@@ -85,7 +93,8 @@ get-insert_other m k b q ne = map.get-insert nat_cmp_total m k b q ∙ by (nat_c
     by Greater e = refl
 
 -- an address outside the bytes
-pub get-with_bytes_other : (bs : List ℕ) (m : Memory) (a q : ℕ) → a + length bs ≤ 2 ^ 32 → (q < a) ⊎ (a + length bs ≤ q) → map.get (with_bytes m a bs) q ≡ map.get m q
+pub get-with_bytes_other : (bs : List ℕ) (m : Memory) (a q : ℕ) → a + length bs ≤ 2 ^ 32 → (q < a) ⊎ (a + length bs ≤ q)
+    → map.get (with_bytes m a bs) q ≡ map.get m q
 get-with_bytes_other [] m a q room apart = refl
 get-with_bytes_other (b ∷ bs) m a q room apart =
     let place : a % 2 ^ 32 ≡ a = omega arith in
@@ -101,18 +110,22 @@ get-with_bytes_other (b ∷ bs) m a q room apart =
     other (inr h) = omega arith
 
 -- an address among the bytes
-pub get-written : (bs : List ℕ) (m : Memory) (a i : ℕ) → i < length bs → a + length bs ≤ 2 ^ 32 → map.get (with_bytes m a bs) (a + i) ≡ Some (slice_index bs i)
+pub get-written : (bs : List ℕ) (m : Memory) (a i : ℕ) → i < length bs → a + length bs ≤ 2 ^ 32
+    → map.get (with_bytes m a bs) (a + i) ≡ Some (slice_index bs i)
 get-written [] m a i l room = absurd (omega arith)
 get-written (b ∷ bs) m a zero l room =
     let place : a + 0 ≡ a % 2 ^ 32 = omega arith in
-    ap (map.get (map.insert (with_bytes m (a + 1) bs) (a % 2 ^ 32) b)) place ∙ get-insert_same (with_bytes m (a + 1) bs) (a % 2 ^ 32) b
+    ap (map.get (map.insert (with_bytes m (a + 1) bs) (a % 2 ^ 32) b)) place
+    ∙ get-insert_same (with_bytes m (a + 1) bs) (a % 2 ^ 32) b
 get-written (b ∷ bs) m a (suc i) l room =
     let there : a + suc i ≡ a + 1 + i = omega arith in
     get-insert_other (with_bytes m (a + 1) bs) (a % 2 ^ 32) b (a + suc i) (omega arith)
     ∙ ap (map.get (with_bytes m (a + 1) bs)) there ∙ get-written bs m (a + 1) i (omega arith) (omega arith)
 
-get-without : (m : Memory) (a n q : ℕ) → map.get (without_range m a n) q ≡ cond (not (nat_le a q && nat_lt q (a + n))) (map.get m q) None
-get-without m a n q = map.get-retain_keys m (λ q. not (nat_le a q && nat_lt q (a + n))) q (λ x e. ap (λ q. not (nat_le a q && nat_lt q (a + n))) (sym (map.nat_cmp-IsAntisymmetric q x e)))
+get-without : (m : Memory) (a n q : ℕ)
+    → map.get (without_range m a n) q ≡ cond (not (nat_le a q && nat_lt q (a + n))) (map.get m q) None
+get-without m a n q = map.get-retain_keys m (λ q. not (nat_le a q && nat_lt q (a + n))) q
+    (λ x e. ap (λ q. not (nat_le a q && nat_lt q (a + n))) (sym (map.nat_cmp-IsAntisymmetric q x e)))
 
 pub get-without_in : (m : Memory) (a n q : ℕ) → a ≤ q → q < a + n → map.get (without_range m a n) q ≡ None
 get-without_in m a n q low high = let e = get-without m a n q in grind (arith, nat_tests)
@@ -159,7 +172,8 @@ front (Some b) (Some rest) bs h = record { first = b; rest = rest; one = refl; o
 front (Some b) None bs h = absurd (cc)
 front None os bs h = absurd (cc)
 
-pub found : (b n a : ℕ) (m : Memory) (ram bs : List ℕ) → Held b m ram → a < 2 ^ 32 → bytes_at m a n ≡ Some bs → Found b m ram a n bs
+pub found : (b n a : ℕ) (m : Memory) (ram bs : List ℕ) → Held b m ram → a < 2 ^ 32 → bytes_at m a n ≡ Some bs
+    → Found b m ram a n bs
 found b zero a m ram bs held small h = record {
   low = λ l. absurd (omega arith);
   high = λ l. absurd (omega arith);
@@ -181,7 +195,8 @@ found b (suc n) a m ram bs held small h =
       is =
           let next : a + 1 - 0x80100000 ≡ a - 0x80100000 + 1 = omega arith in
           let here = held.bytes a f.first one in
-          let others : bytes_from ram (a - 0x80100000 + 1) n ≡ f.rest = subst (λ p. bytes_from ram p n ≡ f.rest) next rest.is in
+          let others : bytes_from ram (a - 0x80100000 + 1) n ≡ f.rest =
+          subst (λ p. bytes_from ram p n ≡ f.rest) next rest.is in
           rw (here, others) (sym f.all);
       there = λ q from to. there q from to f.first one rest (where_is q a 1);
     }
@@ -190,14 +205,16 @@ found b (suc n) a m ram bs held small h =
     end zero rest high = omega arith
     end (suc n) rest high = let r = rest.high (omega arith) in omega arith
 
-    apart : (q : ℕ) → a ≤ q → q < a + suc n → 0x80200000 ≤ q → (v : ℕ) → map.get m a ≡ Some v → {bs : List ℕ} → Found b m ram (a + 1) n bs → Where q a 1 → b ≤ q
+    apart : (q : ℕ) → a ≤ q → q < a + suc n → 0x80200000 ≤ q → (v : ℕ) → map.get m a ≡ Some v → {bs : List ℕ}
+        → Found b m ram (a + 1) n bs → Where q a 1 → b ≤ q
     apart q from to in_stack v one rest (Outside (inl h)) = absurd (omega arith)
     apart q from to in_stack v one rest (Outside (inr h)) = rest.apart q (omega arith) (omega arith) in_stack
     apart q from to in_stack v one rest (Inside i l is) =
         let same : q ≡ a = omega arith in
         subst (λ q. b ≤ q) (sym same) (held.apart a v one (subst (λ q. 0x80200000 ≤ q) same in_stack))
 
-    there : (q : ℕ) → a ≤ q → q < a + suc n → (v : ℕ) → map.get m a ≡ Some v → {bs : List ℕ} → Found b m ram (a + 1) n bs → Where q a 1 → map.get m q ≢ None
+    there : (q : ℕ) → a ≤ q → q < a + suc n → (v : ℕ) → map.get m a ≡ Some v → {bs : List ℕ}
+        → Found b m ram (a + 1) n bs → Where q a 1 → map.get m q ≢ None
     there q from to v one rest (Outside (inl h)) = absurd (omega arith)
     there q from to v one rest (Outside (inr h)) = rest.there q (omega arith) (omega arith)
     there q from to v one rest (Inside i l is) =

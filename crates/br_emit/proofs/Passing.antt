@@ -1,5 +1,7 @@
 -- Words that are passed in registers 10, 11 and so on.
-use Rattle.std.proofs.Common.{◌≡◌, ◌≢◌, ◌⊎◌, inl, inr, ℕ, zero, suc, ◌+◌, ◌<◌, ◌≤◌, ◌==◌, ◌||◌, if◌then◌else◌, List, [], ◌∷◌, length, filter, Option, Some, None, Bool, true, false, IsTrue, refl, sym, ap, subst, ◌∙◌, arith}
+use Rattle.std.proofs.Common.{◌≡◌, ◌≢◌, ◌⊎◌, inl, inr, ℕ, zero, suc, ◌+◌, ◌<◌, ◌≤◌, ◌==◌, ◌||◌}
+use Rattle.std.proofs.Common.{if◌then◌else◌, List, [], ◌∷◌, length, filter, Option, Some, None}
+use Rattle.std.proofs.Common.{Bool, true, false, IsTrue, refl, sym, ap, subst, ◌∙◌, arith}
 use Rattle.std.specs.Prelude.{slice_get}
 use Rattle.std.specs.List.{AllByRecursion}
 use Rattle.std.proofs.lemmas.Bool.Decides.{nat_tests}
@@ -40,7 +42,8 @@ in_order a (x ∷ xs) (suc i) h less =
     later false q h = h
 
 -- two lists in order of one length are one
-pub same_order : (a : ℕ) (xs ys : List ℕ) → IsTrue (is_in_order a xs) → IsTrue (is_in_order a ys) → length xs ≡ length ys → xs ≡ ys
+pub same_order : (a : ℕ) (xs ys : List ℕ) → IsTrue (is_in_order a xs) → IsTrue (is_in_order a ys)
+    → length xs ≡ length ys → xs ≡ ys
 same_order a [] [] h k e = refl
 same_order a [] (y ∷ ys) h k e = absurd (omega arith)
 same_order a (x ∷ xs) [] h k e = absurd (omega arith)
@@ -58,10 +61,12 @@ record Joined (x : ℕ) (xs : List ℕ) (locals : Locals) (vs : List ℕ) : Type
   others : words_of xs locals ≡ Some rest
   all : vs ≡ first ∷ rest
 
-joined : (x : ℕ) (xs : List ℕ) (locals : Locals) (vs : List ℕ) → words_of (x ∷ xs) locals ≡ Some vs → Joined x xs locals vs
+joined : (x : ℕ) (xs : List ℕ) (locals : Locals) (vs : List ℕ) → words_of (x ∷ xs) locals ≡ Some vs
+    → Joined x xs locals vs
 joined x xs locals vs h = by (locals x) (words_of xs locals) refl refl h
   where
-    by : (o : Option ℕ) (os : Option (List ℕ)) → locals x ≡ o → words_of xs locals ≡ os → words_of (x ∷ xs) locals ≡ Some vs → Joined x xs locals vs
+    by : (o : Option ℕ) (os : Option (List ℕ)) → locals x ≡ o → words_of xs locals ≡ os
+        → words_of (x ∷ xs) locals ≡ Some vs → Joined x xs locals vs
     by None os e k h = absurd (cc (ap (λ q. q) h, e))
     by (Some v) None e k h = absurd (cc)
     by (Some v) (Some rest) e k h = record { first = v; rest = rest; one = e; others = k; all = cc }
@@ -76,7 +81,8 @@ of_length (x ∷ xs) vs locals h =
     omega arith
 
 -- the words of names in order stand in their registers, where the names' words do
-pub words_stand : (a : ℕ) (xs vs : List ℕ) (locals : Locals) (registers : List ℕ) → IsTrue (is_in_order a xs) → words_of xs locals ≡ Some vs
+pub words_stand : (a : ℕ) (xs vs : List ℕ) (locals : Locals) (registers : List ℕ) → IsTrue (is_in_order a xs)
+    → words_of xs locals ≡ Some vs
     → ((x v : ℕ) → a ≤ x → x < a + length xs → locals x ≡ Some v → reads registers x ≡ v) → Standing a vs registers
 words_stand a [] vs locals registers order h values =
     let none : [] ≡ vs = cc in
@@ -87,21 +93,27 @@ words_stand a [] vs locals registers order h values =
 words_stand a (x ∷ xs) vs locals registers order h values =
     let j = joined x xs locals vs h in
     let x_is = first_is a x xs order in
-    let rest = words_stand (suc a) xs j.rest locals registers (rest_is a x xs order) j.others (λ y v low high is. values y v (omega arith) (omega arith) is) in
-    let first : reads registers a ≡ j.first = values a j.first (omega arith) (omega arith) (subst (λ y. locals y ≡ Some j.first) x_is j.one) in
+    let rest = words_stand (suc a) xs j.rest locals registers (rest_is a x xs order) j.others
+    (λ y v low high is. values y v (omega arith) (omega arith) is) in
+    let first : reads registers a ≡ j.first =
+    values a j.first (omega arith) (omega arith) (subst (λ y. locals y ≡ Some j.first) x_is j.one) in
     record { at = λ i v is. by i v first rest (subst (λ q. slice_get q i ≡ Some v) j.all is) }
   where
-    by : (i v : ℕ) {first : ℕ} {rest : List ℕ} → reads registers a ≡ first → Standing (suc a) rest registers → slice_get (first ∷ rest) i ≡ Some v → reads registers (a + i) ≡ v
+    by : (i v : ℕ) {first : ℕ} {rest : List ℕ} → reads registers a ≡ first → Standing (suc a) rest registers
+        → slice_get (first ∷ rest) i ≡ Some v → reads registers (a + i) ≡ v
     by zero v one rest is = let here : a + 0 ≡ a = omega arith in ap (reads registers) here ∙ one ∙ cc
-    by (suc i) v one rest is = let there : a + suc i ≡ suc a + i = omega arith in ap (reads registers) there ∙ rest.at i v is
+    by (suc i) v one rest is = let there : a + suc i ≡ suc a + i = omega arith in
+        ap (reads registers) there ∙ rest.at i v is
 
 -- ---- names that are set to words
 
 -- where a word comes from that a name has after names in order were set to words
 pub record Given (a : ℕ) (xs vs : List ℕ) (locals : Locals) (x v : ℕ) : Type 0 where
-  pub from : ((i : ℕ) × (slice_get vs i ≡ Some v) × (x ≡ a + i) × (i < length xs)) ⊎ ((locals x ≡ Some v) × (is_in xs x ≡ false))
+  pub from : ((i : ℕ) × (slice_get vs i ≡ Some v) × (x ≡ a + i) × (i < length xs))
+      ⊎ ((locals x ≡ Some v) × (is_in xs x ≡ false))
 
-pub where_from : (a : ℕ) (xs vs : List ℕ) (locals : Locals) (x v : ℕ) → IsTrue (is_in_order a xs) → length xs ≡ length vs → with_locals xs vs locals x ≡ Some v → Given a xs vs locals x v
+pub where_from : (a : ℕ) (xs vs : List ℕ) (locals : Locals) (x v : ℕ) → IsTrue (is_in_order a xs)
+    → length xs ≡ length vs → with_locals xs vs locals x ≡ Some v → Given a xs vs locals x v
 where_from a [] [] locals x v order size h = record { from = inr (h, refl) }
 where_from a [] (w ∷ vs) locals x v order size h = absurd (omega arith)
 where_from a (y ∷ xs) [] locals x v order size h = absurd (omega arith)
@@ -110,7 +122,8 @@ where_from a (y ∷ xs) (w ∷ vs) locals x v order size h =
     by y_is (where_from (suc a) xs vs (with_local y w locals) x v (rest_is a y xs order) (omega arith) h).from
   where
     here : (b : Bool) → (x == y) ≡ b → y ≡ a → (if b then Some w else locals x) ≡ Some v → is_in xs x ≡ false
-        → ((i : ℕ) × (slice_get (w ∷ vs) i ≡ Some v) × (x ≡ a + i) × (i < suc (length xs))) ⊎ ((locals x ≡ Some v) × (is_in (y ∷ xs) x ≡ false))
+        → ((i : ℕ) × (slice_get (w ∷ vs) i ≡ Some v) × (x ≡ a + i) × (i < suc (length xs)))
+        ⊎ ((locals x ≡ Some v) × (is_in (y ∷ xs) x ≡ false))
     here true e y_is is out =
         let same : x ≡ y = grind (arith, nat_tests) in
         let value : w ≡ v = cc in
@@ -122,14 +135,16 @@ where_from a (y ∷ xs) (w ∷ vs) locals x v order size h =
         flip : (p q : ℕ) → q ≢ p → (p == q) ≡ false
         flip p q ne = grind (arith, nat_tests)
 
-    by : y ≡ a → ((i : ℕ) × (slice_get vs i ≡ Some v) × (x ≡ suc a + i) × (i < length xs)) ⊎ ((with_local y w locals x ≡ Some v) × (is_in xs x ≡ false)) → Given a (y ∷ xs) (w ∷ vs) locals x v
+    by : y ≡ a → ((i : ℕ) × (slice_get vs i ≡ Some v) × (x ≡ suc a + i) × (i < length xs))
+        ⊎ ((with_local y w locals x ≡ Some v) × (is_in xs x ≡ false)) → Given a (y ∷ xs) (w ∷ vs) locals x v
     by y_is (inl (i, is, place, less)) = record { from = inl (suc i, is, omega arith, omega arith) }
     by y_is (inr (is, out)) = record { from = here (x == y) refl y_is is out }
 
 -- ---- the registers that are saved
 
 -- what a filter leaves of numbers that rise
-pub filter_rises : (p : ℕ → Bool) (a n : ℕ) → Rises (filter p (count_up a n)) × AllByRecursion (λ q. a ≤ q) (filter p (count_up a n)) × (length (filter p (count_up a n)) ≤ n)
+pub filter_rises : (p : ℕ → Bool) (a n : ℕ) → Rises (filter p (count_up a n))
+    × AllByRecursion (λ q. a ≤ q) (filter p (count_up a n)) × (length (filter p (count_up a n)) ≤ n)
 filter_rises p a zero = (tt, tt, omega arith)
 filter_rises p a (suc n) = by (p a) (filter_rises p (a + 1) n)
   where
@@ -141,9 +156,16 @@ filter_rises p a (suc n) = by (p a) (filter_rises p (a + 1) n)
     less [] h = tt
     less (x ∷ xs) h = (let l = h.0 in omega arith, less xs h.1)
 
-    by : (b : Bool) → Rises (filter p (count_up (a + 1) n)) × AllByRecursion (λ q. a + 1 ≤ q) (filter p (count_up (a + 1) n)) × (length (filter p (count_up (a + 1) n)) ≤ n)
-        → Rises (if b then a ∷ filter p (count_up (a + 1) n) else filter p (count_up (a + 1) n)) × AllByRecursion (λ q. a ≤ q) (if b then a ∷ filter p (count_up (a + 1) n) else filter p (count_up (a + 1) n)) × (length (if b then a ∷ filter p (count_up (a + 1) n) else filter p (count_up (a + 1) n)) ≤ suc n)
-    by true (rises, low, short) = ((more (a + 1) (filter p (count_up (a + 1) n)) (omega arith) low, rises), (omega arith, less (filter p (count_up (a + 1) n)) low), omega arith)
+    by : (b : Bool) → Rises (filter p (count_up (a + 1) n))
+        × AllByRecursion (λ q. a + 1 ≤ q) (filter p (count_up (a + 1) n)) × (length (filter p (count_up (a + 1) n)) ≤ n)
+        → Rises (if b then a ∷ filter p (count_up (a + 1) n) else filter p (count_up (a + 1) n)) × AllByRecursion
+        (λ q. a ≤ q) (if b then a ∷ filter p (count_up (a + 1) n) else filter p (count_up (a + 1) n))
+        × (length (if b then a ∷ filter p (count_up (a + 1) n) else filter p (count_up (a + 1) n)) ≤ suc n)
+    by true (rises, low, short) = (
+      (more (a + 1) (filter p (count_up (a + 1) n)) (omega arith) low, rises),
+      (omega arith, less (filter p (count_up (a + 1) n)) low),
+      omega arith,
+    )
     by false (rises, low, short) = (rises, less (filter p (count_up (a + 1) n)) low, omega arith)
 
 -- a number that a filter leaves out is none of the rest
@@ -151,7 +173,8 @@ pub none_left : (p : ℕ → Bool) (y a n : ℕ) → p y ≡ false → NoneOf y 
 none_left p y a zero out = tt
 none_left p y a (suc n) out = by (p a) refl (none_left p y (a + 1) n out)
   where
-    by : (b : Bool) → p a ≡ b → NoneOf y (filter p (count_up (a + 1) n)) → NoneOf y (if b then a ∷ filter p (count_up (a + 1) n) else filter p (count_up (a + 1) n))
+    by : (b : Bool) → p a ≡ b → NoneOf y (filter p (count_up (a + 1) n))
+        → NoneOf y (if b then a ∷ filter p (count_up (a + 1) n) else filter p (count_up (a + 1) n))
     by true e rest = ((λ same. clash (sym e ∙ ap p (sym same) ∙ out)), rest)
       where
         clash : true ≡ false → ⊥
@@ -160,7 +183,8 @@ none_left p y a (suc n) out = by (p a) refl (none_left p y (a + 1) n out)
 
 -- a number that it keeps is where its word stands
 pub kept_word : (p : ℕ → Bool) (y a n place : ℕ) (registers registers' ram : List ℕ) → p y ≡ true → a ≤ y → y < a + n
-    → Stored registers' ram place (filter p (count_up a n)) → Stored registers ram place (filter p (count_up a n)) → reads registers' y ≡ reads registers y
+    → Stored registers' ram place (filter p (count_up a n)) → Stored registers ram place (filter p (count_up a n))
+    → reads registers' y ≡ reads registers y
 kept_word p y a zero place registers registers' ram is low high h k = absurd (omega arith)
 kept_word p y a (suc n) place registers registers' ram is low high h k =
     by (p a) refl (λ place far h k. kept_word p y (a + 1) n place registers registers' ram is far (omega arith) h k) h k
@@ -175,8 +199,11 @@ kept_word p y a (suc n) place registers registers' ram is low high h k =
         ne_then ne = omega arith
 
     by : (b : Bool) → p a ≡ b
-        → ((place : ℕ) → a + 1 ≤ y → Stored registers' ram place (filter p (count_up (a + 1) n)) → Stored registers ram place (filter p (count_up (a + 1) n)) → reads registers' y ≡ reads registers y)
-        → Stored registers' ram place (if b then a ∷ filter p (count_up (a + 1) n) else filter p (count_up (a + 1) n)) → Stored registers ram place (if b then a ∷ filter p (count_up (a + 1) n) else filter p (count_up (a + 1) n)) → reads registers' y ≡ reads registers y
+        → ((place : ℕ) → a + 1 ≤ y → Stored registers' ram place (filter p (count_up (a + 1) n))
+        → Stored registers ram place (filter p (count_up (a + 1) n)) → reads registers' y ≡ reads registers y)
+        → Stored registers' ram place (if b then a ∷ filter p (count_up (a + 1) n) else filter p (count_up (a + 1) n))
+        → Stored registers ram place (if b then a ∷ filter p (count_up (a + 1) n)
+        else filter p (count_up (a + 1) n)) → reads registers' y ≡ reads registers y
     by true e again h k = first_or_later (y == a) refl
       where
         first_or_later : (b : Bool) → (y == a) ≡ b → reads registers' y ≡ reads registers y
@@ -190,24 +217,28 @@ kept_word p y a (suc n) place registers registers' ram is low high h k =
 
 -- ---- names that are set are read
 
-set_other : (a : ℕ) (xs vs : List ℕ) (locals : Locals) (x : ℕ) → IsTrue (is_in_order a xs) → x < a → length xs ≡ length vs → with_locals xs vs locals x ≡ locals x
+set_other : (a : ℕ) (xs vs : List ℕ) (locals : Locals) (x : ℕ) → IsTrue (is_in_order a xs) → x < a
+    → length xs ≡ length vs → with_locals xs vs locals x ≡ locals x
 set_other a [] vs locals x order less size = refl
 set_other a (y ∷ xs) [] locals x order less size = absurd (omega arith)
 set_other a (y ∷ xs) (v ∷ vs) locals x order less size =
     let y_is = first_is a y xs order in
-    set_other (suc a) xs vs (with_local y v locals) x (rest_is a y xs order) (omega arith) (omega arith) ∙ apart (x == y) refl y_is
+    set_other (suc a) xs vs (with_local y v locals) x (rest_is a y xs order) (omega arith) (omega arith)
+    ∙ apart (x == y) refl y_is
   where
     apart : (b : Bool) → (x == y) ≡ b → y ≡ a → (if b then Some v else locals x) ≡ locals x
     apart true e y_is = let same : x ≡ y = grind (arith, nat_tests) in absurd (omega arith)
     apart false e y_is = refl
 
-pub words_set : (a : ℕ) (xs vs : List ℕ) (locals : Locals) → IsTrue (is_in_order a xs) → length xs ≡ length vs → words_of xs (with_locals xs vs locals) ≡ Some vs
+pub words_set : (a : ℕ) (xs vs : List ℕ) (locals : Locals) → IsTrue (is_in_order a xs) → length xs ≡ length vs
+    → words_of xs (with_locals xs vs locals) ≡ Some vs
 words_set a [] [] locals order size = refl
 words_set a [] (v ∷ vs) locals order size = absurd (omega arith)
 words_set a (x ∷ xs) [] locals order size = absurd (omega arith)
 words_set a (x ∷ xs) (v ∷ vs) locals order size =
     let x_is = first_is a x xs order in
-    let first : with_locals xs vs (with_local x v locals) x ≡ Some v = set_other (suc a) xs vs (with_local x v locals) x (rest_is a x xs order) (omega arith) (omega arith) ∙ here in
+    let first : with_locals xs vs (with_local x v locals) x ≡ Some v =
+    set_other (suc a) xs vs (with_local x v locals) x (rest_is a x xs order) (omega arith) (omega arith) ∙ here in
     let rest = words_set (suc a) xs vs (with_local x v locals) (rest_is a x xs order) (omega arith) in
     rw (first, rest) refl
   where

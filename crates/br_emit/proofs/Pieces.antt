@@ -1,5 +1,7 @@
 -- What it is for a piece of code to run a part of a flat program, and how pieces are joined.
-use Rattle.std.proofs.Common.{◌≢◌, Bool, false, ◌≡◌, ◌⊎◌, ℕ, zero, suc, ◌+◌, ◌-◌, ◌*◌, ◌%◌, ◌<◌, ◌≤◌, max, List, [], ◌∷◌, ◌++◌, length, Option, Some, None, refl, sym, ap, subst, ◌∙◌, arith, append_assoc, length-append}
+use Rattle.std.proofs.Common.{◌≢◌, Bool, false, ◌≡◌, ◌⊎◌, ℕ, zero, suc, ◌+◌, ◌-◌, ◌*◌, ◌%◌}
+use Rattle.std.proofs.Common.{◌<◌, ◌≤◌, max, List, [], ◌∷◌, ◌++◌, length, Option, Some, None}
+use Rattle.std.proofs.Common.{refl, sym, ap, subst, ◌∙◌, arith, append_assoc, length-append}
 use Rattle.std.specs.Prelude.{slice_index, IfSome}
 use Rattle.std.specs.FinMap as map
 use Rattle.br_words.specs.Words.{IsWord}
@@ -58,7 +60,8 @@ pub placed-front : (code : List ℕ) (j : ℕ) (is ks : List Item) → Placed co
 placed-front code j [] ks h = tt
 placed-front code j (i ∷ is) ks h = (h.0, h.1, placed-front code (j + 1) is ks h.2)
 
-pub placed-back : (code : List ℕ) (j : ℕ) (is ks : List Item) → Placed code j (is ++ ks) → Placed code (j + length is) ks
+pub placed-back : (code : List ℕ) (j : ℕ) (is ks : List Item) → Placed code j (is ++ ks)
+    → Placed code (j + length is) ks
 placed-back code j [] ks h = let same : j + 0 ≡ j = omega arith in subst (λ i. Placed code i ks) (sym same) h
 placed-back code j (i ∷ is) ks h =
     let same : j + 1 + length is ≡ j + suc (length is) = omega arith in
@@ -99,12 +102,14 @@ Apart b a = (0x80100000 ≤ a) × (a < 0x80300000) × ((a < 0x80200000) ⊎ (b �
 pub record Kept (b : ℕ) (m m' : Memory) (ram ram' : List ℕ) : Type 0 where
   pub domain : (a : ℕ) → Apart b a → map.get m' a ≡ None → map.get m a ≡ None
   pub fresh : (a : ℕ) → Apart b a → map.get m a ≡ None → map.get m' a ≡ None
-  pub stays : (a : ℕ) → Apart b a → map.get m' a ≡ None → slice_index ram' (a - 0x80100000) ≡ slice_index ram (a - 0x80100000)
+  pub stays : (a : ℕ) → Apart b a → map.get m' a ≡ None
+      → slice_index ram' (a - 0x80100000) ≡ slice_index ram (a - 0x80100000)
 
 pub kept_refl : (b : ℕ) (m : Memory) (ram : List ℕ) → Kept b m m ram ram
 kept_refl b m ram = record { domain = λ a apart none. none; fresh = λ a apart none. none; stays = λ a apart none. refl }
 
-pub kept_trans : (b : ℕ) (m m' m'' : Memory) (ram ram' ram'' : List ℕ) → Kept b m m' ram ram' → Kept b m' m'' ram' ram'' → Kept b m m'' ram ram''
+pub kept_trans : (b : ℕ) (m m' m'' : Memory) (ram ram' ram'' : List ℕ) → Kept b m m' ram ram' → Kept b m' m'' ram' ram''
+    → Kept b m m'' ram ram''
 kept_trans b m m' m'' ram ram' ram'' first second = record {
   domain = λ a apart none. first.domain a apart (second.domain a apart none);
   fresh = λ a apart none. second.fresh a apart (first.fresh a apart none);
@@ -200,7 +205,8 @@ chosen-append : (cs ds : List Choice) → AreChoices cs → AreChoices ds → Ar
 chosen-append [] ds a b = b
 chosen-append (c ∷ cs) ds a b = (a.0, chosen-append cs ds a.1 b)
 
-paced_trans : (g : Ground) (s t u : State) (n k b d : ℕ) → Paced g s t n b → Paced g t u k d → Paced g s u (n + k) (b + d)
+paced_trans : (g : Ground) (s t u : State) (n k b d : ℕ) → Paced g s t n b → Paced g t u k d
+    → Paced g s u (n + k) (b + d)
 paced_trans g s t u n k b d first second =
     let a1 = first.takes in let a2 = first.least in let a3 = first.most in
     let b1 = second.takes in let b2 = second.least in let b3 = second.most in
@@ -209,7 +215,8 @@ paced_trans g s t u n k b d first second =
       least = omega arith;
       most =
           let used : s.fuel - u.fuel ≡ (s.fuel - t.fuel) + (t.fuel - u.fuel) = omega arith in
-          let product : (s.fuel - u.fuel) * g.total ≡ (s.fuel - t.fuel) * g.total + (t.fuel - u.fuel) * g.total = ap (λ q. q * g.total) used ∙ mul-add (s.fuel - t.fuel) (t.fuel - u.fuel) g.total in
+          let product : (s.fuel - u.fuel) * g.total ≡ (s.fuel - t.fuel) * g.total + (t.fuel - u.fuel) * g.total =
+          ap (λ q. q * g.total) used ∙ mul-add (s.fuel - t.fuel) (t.fuel - u.fuel) g.total in
           omega (arith, product);
     }
   where
@@ -217,7 +224,8 @@ paced_trans g s t u n k b d first second =
     mul-add x y z = grind arith
 
 -- the second run after a first that went on
-pub after_on : (g : Ground) (f next : State → Run) (s : State) (m : Moment) (ram : List ℕ) (b middle end bulk1 bulk2 : ℕ) (w : WentOn g f s m ram b middle bulk1)
+pub after_on : (g : Ground) (f next : State → Run) (s : State) (m : Moment) (ram : List ℕ)
+    (b middle end bulk1 bulk2 : ℕ) (w : WentOn g f s m ram b middle bulk1)
     → Shown g next w.after (at g.code middle w.registers w.ram' w.after.answers w.after.trace) w.ram' b end bulk2
     → Shown g (followed f next) s m ram b end (bulk1 + bulk2)
 after_on g f next s m ram b middle end bulk1 bulk2 w (On u) = On (record {
@@ -268,7 +276,8 @@ wider : (g : Ground) (s t : State) (n b d : ℕ) → b ≤ d → Paced g s t n b
 wider g s t n b d le p = let a1 = p.most in record { takes = p.takes; least = p.least; most = omega arith }
 
 -- a run that ended does not go on
-pub after_out : (g : Ground) (f next : State → Run) (s : State) (m : Moment) (ram : List ℕ) (b bulk1 bulk2 : ℕ) (end : ℕ) → WentOut g f s m ram b bulk1 → Shown g (followed f next) s m ram b end (bulk1 + bulk2)
+pub after_out : (g : Ground) (f next : State → Run) (s : State) (m : Moment) (ram : List ℕ) (b bulk1 bulk2 : ℕ)
+    (end : ℕ) → WentOut g f s m ram b bulk1 → Shown g (followed f next) s m ram b end (bulk1 + bulk2)
 after_out g f next s m ram b bulk1 bulk2 end w = Out (record {
   choices = w.choices;
   chosen = w.chosen;
@@ -287,13 +296,20 @@ after_out g f next s m ram b bulk1 bulk2 end w = Out (record {
 })
 
 pub after_wrong : (f next : State → Run) (s : State) → WentWrong f s → WentWrong (followed f next) s
-after_wrong f next s w = record { choices = w.choices; chosen = w.chosen; after = w.after; ends = λ rest. ap (λ r. then_do r next) (w.ends rest) }
+after_wrong f next s w = record {
+  choices = w.choices;
+  chosen = w.chosen;
+  after = w.after;
+  ends = λ rest. ap (λ r. then_do r next) (w.ends rest);
+}
 
 pub join : (g : Ground) (f next : State → Run) (s : State) (m : Moment) (ram : List ℕ) (b middle end bulk1 bulk2 : ℕ)
     → Shown g f s m ram b middle bulk1
-    → ((w : WentOn g f s m ram b middle bulk1) → Shown g next w.after (at g.code middle w.registers w.ram' w.after.answers w.after.trace) w.ram' b end bulk2)
+    → ((w : WentOn g f s m ram b middle bulk1)
+    → Shown g next w.after (at g.code middle w.registers w.ram' w.after.answers w.after.trace) w.ram' b end bulk2)
     → Shown g (followed f next) s m ram b end (bulk1 + bulk2)
-join g f next s m ram b middle end bulk1 bulk2 (On w) second = after_on g f next s m ram b middle end bulk1 bulk2 w (second w)
+join g f next s m ram b middle end bulk1 bulk2 (On w) second =
+    after_on g f next s m ram b middle end bulk1 bulk2 w (second w)
 join g f next s m ram b middle end bulk1 bulk2 (Out w) second = after_out g f next s m ram b bulk1 bulk2 end w
 join g f next s m ram b middle end bulk1 bulk2 (Wrong w) second = Wrong (after_wrong f next s w)
 
@@ -301,12 +317,16 @@ join g f next s m ram b middle end bulk1 bulk2 (Wrong w) second = Wrong (after_w
 pub simulates_then : (g : Ground) (f next : State → Run) (is ks : ℕ → List Item) (nest1 nest2 bulk1 bulk2 : ℕ)
     → Simulates g f is nest1 bulk1 → Simulates g next ks nest2 bulk2
     → Simulates g (followed f next) (λ free. is free ++ ks free) (max nest1 nest2) (bulk1 + bulk2)
-simulates_then g f next is ks nest1 nest2 bulk1 bulk2 first second free j s registers ram room multiple inside deep placed ready stands =
+simulates_then g f next is ks nest1 nest2 bulk1 bulk2 first second free j s registers ram room multiple inside deep
+    placed ready stands =
     let m = at g.code j registers ram s.answers s.trace in
     let b = g.sp + free in
     let middle = j + length (is free) in
-    let end : middle + length (ks free) ≡ j + length (is free ++ ks free) = omega (arith, length-append (is free) (ks free)) in
+    let end : middle + length (ks free) ≡ j + length (is free ++ ks free) =
+    omega (arith, length-append (is free) (ks free)) in
     subst (λ e. Shown g (followed f next) s m ram b e (bulk1 + bulk2)) end
     (join g f next s m ram b middle (middle + length (ks free)) bulk1 bulk2
-    (first free j s registers ram (omega arith) multiple inside deep (placed-front g.code j (is free) (ks free) placed) ready stands)
-    (λ w. second free middle w.after w.registers w.ram' (omega arith) multiple inside (let less = w.paced.takes in omega arith) (placed-back g.code j (is free) (ks free) placed) w.ready w.stands))
+    (first free j s registers ram (omega arith) multiple inside deep
+    (placed-front g.code j (is free) (ks free) placed) ready stands)
+    (λ w. second free middle w.after w.registers w.ram' (omega arith) multiple inside
+    (let less = w.paced.takes in omega arith) (placed-back g.code j (is free) (ks free) placed) w.ready w.stands))

@@ -1,5 +1,6 @@
 -- The places of functions that stand one after another.
-use Rattle.std.proofs.Common.{◌≡◌, ℕ, ◌+◌, ◌-◌, ◌<◌, ◌≤◌, if◌then◌else◌, Bool, List, [], ◌∷◌, map, get_or, length, drop, sym, ap, subst, ◌∙◌, arith}
+use Rattle.std.proofs.Common.{◌≡◌, ℕ, ◌+◌, ◌-◌, ◌<◌, ◌≤◌, if◌then◌else◌, Bool, List, []}
+use Rattle.std.proofs.Common.{◌∷◌, map, get_or, length, drop, sym, ap, subst, ◌∙◌, arith}
 use Rattle.std.specs.List.{AllByRecursion}
 use Rattle.br_flatimp.specs.declared.program.FlatFunc.{FlatFunc}
 use Rattle.br_flatimp.specs.Runs.{Forgets}
@@ -14,18 +15,22 @@ use Rattle.br_emit.proofs.Unrolling.{drop_next}
 abbrev pub entry_at : Bool → Forgets → Bool → ℕ → ℕ → FlatFunc → ℕ
 entry_at near forgets called place n f = if called then place + callable_words near forgets n f else place
 
-pub record PlaceHere (near : Bool) (forgets : Forgets) (called : ℕ → Bool) (place n : ℕ) (f : FlatFunc) (t o : Noted) (most : ℕ) : Type 0 where
+pub record PlaceHere (near : Bool) (forgets : Forgets) (called : ℕ → Bool) (place n : ℕ) (f : FlatFunc) (t o : Noted)
+    (most : ℕ) : Type 0 where
   pub targets : 1 ≤ t.room
   pub offsets : 1 ≤ o.room
   pub writable : Writable near most f
   pub few : place + function_words near forgets (called n) n f ≤ 1048576
 
-long_next : {X : Type 0} (xs : List X) (i : ℕ) (x : X) → i < length xs → x ≡ get_or xs i x → length (drop i xs) ≡ 1 + length (drop (i + 1) xs)
+long_next : {X : Type 0} (xs : List X) (i : ℕ) (x : X) → i < length xs → x ≡ get_or xs i x
+    → length (drop i xs) ≡ 1 + length (drop (i + 1) xs)
 long_next xs i x inside is = let next = ap length (drop_next xs i x inside is) in omega (arith, next)
 
-pub place_here : (near : Bool) (forgets : Forgets) (called : ℕ → Bool) (fs : List FlatFunc) (i place n : ℕ) (f : FlatFunc) (t o : Noted) (most : ℕ) → i < length fs → f ≡ get_or fs i f
+pub place_here : (near : Bool) (forgets : Forgets) (called : ℕ → Bool) (fs : List FlatFunc) (i place n : ℕ)
+    (f : FlatFunc) (t o : Noted) (most : ℕ) → i < length fs → f ≡ get_or fs i f
     → length (drop i fs) ≤ t.room → length (drop i fs) ≤ o.room → AllByRecursion (Writable near most) (drop i fs)
-    → place + program_words near forgets called n (drop i fs) ≤ 1048576 → PlaceHere near forgets called place n f t o most
+    → place + program_words near forgets called n (drop i fs) ≤ 1048576
+    → PlaceHere near forgets called place n f t o most
 place_here near forgets called fs i place n f t o most inside is troom oroom writable few =
     let long = long_next fs i f inside is in
     let words = ap (program_words near forgets called n) (drop_next fs i f inside is) in
@@ -36,18 +41,26 @@ place_here near forgets called fs i place n f t o most inside is troom oroom wri
       few = omega (arith, words, few);
     }
 
-pub record PlaceStep (near : Bool) (forgets : Forgets) (called : ℕ → Bool) (fs : List FlatFunc) (i place place' n : ℕ) (f : FlatFunc) (t t' o o' : Noted) (most : ℕ) : Type 0 where
-  pub words : place' + program_words near forgets called (n + 1) (drop (i + 1) fs) ≡ place + program_words near forgets called n (drop i fs)
-  pub targets : noted t' (map address_of (begins near forgets called place' (n + 1) (drop (i + 1) fs))) ≡ noted t (map address_of (begins near forgets called place n (drop i fs)))
-  pub offsets : noted o' (map offset_of (entries near forgets called place' (n + 1) (drop (i + 1) fs))) ≡ noted o (map offset_of (entries near forgets called place n (drop i fs)))
+pub record PlaceStep (near : Bool) (forgets : Forgets) (called : ℕ → Bool) (fs : List FlatFunc) (i place place' n : ℕ)
+    (f : FlatFunc) (t t' o o' : Noted) (most : ℕ) : Type 0 where
+  pub words : place' + program_words near forgets called (n + 1) (drop (i + 1) fs)
+      ≡ place + program_words near forgets called n (drop i fs)
+  pub targets : noted t' (map address_of (begins near forgets called place' (n + 1) (drop (i + 1) fs)))
+      ≡ noted t (map address_of (begins near forgets called place n (drop i fs)))
+  pub offsets : noted o' (map offset_of (entries near forgets called place' (n + 1) (drop (i + 1) fs)))
+      ≡ noted o (map offset_of (entries near forgets called place n (drop i fs)))
   pub target_room : length (drop (i + 1) fs) ≤ t'.room
   pub offset_room : length (drop (i + 1) fs) ≤ o'.room
   pub writable : AllByRecursion (Writable near most) (drop (i + 1) fs)
 
-pub place_step : (near : Bool) (forgets : Forgets) (called : ℕ → Bool) (fs : List FlatFunc) (i place place' n : ℕ) (f : FlatFunc) (t t' o o' : Noted) (most most' : ℕ) → i < length fs → f ≡ get_or fs i f
-    → place' ≡ place + function_words near forgets (called n) n f → t' ≡ noted t (address_of place ∷ []) → o' ≡ noted o (offset_of (entry_at near forgets (called n) place n f) ∷ []) → most' ≡ most
-    → length (drop i fs) ≤ t.room → length (drop i fs) ≤ o.room → AllByRecursion (Writable near most) (drop i fs) → PlaceStep near forgets called fs i place place' n f t t' o o' most'
-place_step near forgets called fs i place place' n f t t' o o' most most' inside is place_is new_t new_o kept troom oroom writable =
+pub place_step : (near : Bool) (forgets : Forgets) (called : ℕ → Bool) (fs : List FlatFunc) (i place place' n : ℕ)
+    (f : FlatFunc) (t t' o o' : Noted) (most most' : ℕ) → i < length fs → f ≡ get_or fs i f
+    → place' ≡ place + function_words near forgets (called n) n f → t' ≡ noted t (address_of place ∷ [])
+    → o' ≡ noted o (offset_of (entry_at near forgets (called n) place n f) ∷ []) → most' ≡ most
+    → length (drop i fs) ≤ t.room → length (drop i fs) ≤ o.room → AllByRecursion (Writable near most) (drop i fs)
+    → PlaceStep near forgets called fs i place place' n f t t' o o' most'
+place_step near forgets called fs i place place' n f t t' o o' most most' inside is place_is new_t new_o kept troom
+    oroom writable =
     let next = drop_next fs i f inside is in
     let rest = drop (i + 1) fs in
     let long = long_next fs i f inside is in
@@ -63,10 +76,13 @@ place_step near forgets called fs i place place' n f t t' o o' most most' inside
           ∙ ap (λ q. noted t (map address_of (begins near forgets called place n q))) (sym next);
       offsets =
           ap (λ q. noted q (map offset_of (entries near forgets called place' (n + 1) rest))) new_o
-          ∙ noted_twice o (offset_of (entry_at near forgets (called n) place n f) ∷ []) (map offset_of (entries near forgets called place' (n + 1) rest))
-          ∙ ap (λ p. noted o (offset_of (entry_at near forgets (called n) place n f) ∷ map offset_of (entries near forgets called p (n + 1) rest))) place_is
+          ∙ noted_twice o (offset_of (entry_at near forgets (called n) place n f) ∷ [])
+          (map offset_of (entries near forgets called place' (n + 1) rest))
+          ∙ ap (λ p. noted o (offset_of (entry_at near forgets (called n) place n f)
+          ∷ map offset_of (entries near forgets called p (n + 1) rest))) place_is
           ∙ ap (λ q. noted o (map offset_of (entries near forgets called place n q))) (sym next);
       target_room = omega (arith, long, tr, troom);
       offset_room = omega (arith, long, or, oroom);
-      writable = subst (λ m. AllByRecursion (Writable near m) rest) (sym kept) (subst (AllByRecursion (Writable near most)) next writable).1;
+      writable = subst (λ m. AllByRecursion (Writable near m) rest) (sym kept)
+          (subst (AllByRecursion (Writable near most)) next writable).1;
     }

@@ -1,5 +1,6 @@
 -- What has to hold before code is written, of pieces one after another.
-use Rattle.std.proofs.Common.{◌≡◌, ℕ, suc, ◌+◌, ◌-◌, ◌<◌, ◌≤◌, ◌≢◌, ◌==◌, ◌||◌, Bool, true, false, List, [], ◌∷◌, ◌++◌, length, drop, refl, sym, ap, subst, ◌∙◌, arith, append_assoc, append-nil, length-append}
+use Rattle.std.proofs.Common.{◌≡◌, ℕ, suc, ◌+◌, ◌-◌, ◌<◌, ◌≤◌, ◌≢◌, ◌==◌, ◌||◌, Bool, true, false, List, [], ◌∷◌, ◌++◌}
+use Rattle.std.proofs.Common.{length, drop, refl, sym, ap, subst, ◌∙◌, arith, append_assoc, append-nil, length-append}
 use Rattle.br_emit.specs.Code.{Item, item_word, words_at, AllFit}
 use Rattle.br_emit.specs.Sizes.{IsFront}
 use Rattle.std.specs.Prelude.{slice_set, get_or}
@@ -14,11 +15,13 @@ pub words_long : (place : ℕ) (items : List Item) → length (words_at place it
 words_long place [] = refl
 words_long place (i ∷ items) = let rest = words_long (place + 1) items in omega (arith, rest)
 
-pub words_both : (place : ℕ) (a b : List Item) → words_at place (a ++ b) ≡ words_at place a ++ words_at (place + length a) b
+pub words_both : (place : ℕ) (a b : List Item)
+    → words_at place (a ++ b) ≡ words_at place a ++ words_at (place + length a) b
 words_both place [] b = let here : place ≡ place + 0 = omega arith in ap (λ q. words_at q b) here
 words_both place (i ∷ a) b =
     let there : place + 1 + length a ≡ place + suc (length a) = omega arith in
-    ap (λ q. item_word place i ∷ q) (words_both (place + 1) a b ∙ ap (λ q. words_at (place + 1) a ++ words_at q b) there)
+    ap (λ q. item_word place i ∷ q)
+    (words_both (place + 1) a b ∙ ap (λ q. words_at (place + 1) a ++ words_at q b) there)
 
 pub appended_nothing : (w : Written) → appended w [] ≡ w
 appended_nothing w =
@@ -29,12 +32,17 @@ appended_nothing w =
 pub appended_twice : (w : Written) (a b : List Item) → appended (appended w a) b ≡ appended w (a ++ b)
 appended_twice w a b =
     let at = length w.words in
-    let long : length (w.words ++ words_at at a) ≡ at + length a = length-append w.words (words_at at a) ∙ ap (λ n. at + n) (words_long at a) in
-    let words : w.words ++ words_at at a ++ words_at (length (w.words ++ words_at at a)) b ≡ w.words ++ words_at at (a ++ b) =
-    ap (λ q. w.words ++ words_at at a ++ words_at q b) long ∙ append_assoc w.words (words_at at a) (words_at (at + length a) b) ∙ ap (λ q. w.words ++ q) (sym (words_both at a b)) in
+    let long : length (w.words ++ words_at at a) ≡ at + length a = length-append w.words (words_at at a)
+    ∙ ap (λ n. at + n) (words_long at a) in
+    let words : w.words ++ words_at at a ++ words_at (length (w.words ++ words_at at a)) b
+    ≡ w.words ++ words_at at (a ++ b) =
+    ap (λ q. w.words ++ words_at at a ++ words_at q b) long
+    ∙ append_assoc w.words (words_at at a) (words_at (at + length a) b)
+    ∙ ap (λ q. w.words ++ q) (sym (words_both at a b)) in
     let size = length-append a b in
     let room : w.room - length a - length b ≡ w.room - length (a ++ b) = omega arith in
-    ap (λ q. record { words = q; room = w.room - length a - length b }) words ∙ ap (λ q. record { words = w.words ++ words_at at (a ++ b); room = q }) room
+    ap (λ q. record { words = q; room = w.room - length a - length b }) words
+    ∙ ap (λ q. record { words = w.words ++ words_at at (a ++ b); room = q }) room
 
 pub fit_front : (a b : List Item) → AllFit (a ++ b) → AllFit a
 fit_front [] b fit = tt
@@ -55,7 +63,8 @@ drop_front (x ∷ p) q = drop_front p q
 -- what is left after a list and what stands after it
 left_after : (p q l : List ℕ) → IsFront (p ++ q) l → drop (length p) l ≡ q ++ drop (length (p ++ q)) l
 left_after p q l front =
-    ap (drop (length p)) (sym front) ∙ ap (drop (length p)) (append_assoc p q (drop (length (p ++ q)) l)) ∙ drop_front p (q ++ drop (length (p ++ q)) l)
+    ap (drop (length p)) (sym front) ∙ ap (drop (length p)) (append_assoc p q (drop (length (p ++ q)) l))
+    ∙ drop_front p (q ++ drop (length (p ++ q)) l)
 
 pub drop_both : (p q l : List ℕ) → IsFront (p ++ q) l → drop (length q) (drop (length p) l) ≡ drop (length (p ++ q)) l
 drop_both p q l front = ap (drop (length q)) (left_after p q l front) ∙ drop_front q (drop (length (p ++ q)) l)
@@ -67,7 +76,8 @@ front_of p q l front =
 back_of : (p q l : List ℕ) → IsFront (p ++ q) l → IsFront q (drop (length p) l)
 back_of p q l front = ap (λ r. q ++ r) (drop_both p q l front) ∙ sym (left_after p q l front)
 
-pub ready_front : (a b : List Item) (p q : List ℕ) (w : Written) (l : List ℕ) → Ready (a ++ b) (p ++ q) w l → Ready a p w l
+pub ready_front : (a b : List Item) (p q : List ℕ) (w : Written) (l : List ℕ) → Ready (a ++ b) (p ++ q) w l
+    → Ready a p w l
 ready_front a b p q w l ready =
     let size = length-append a b in
     record {
@@ -76,7 +86,8 @@ ready_front a b p q w l ready =
       front = front_of p q l ready.front;
     }
 
-pub ready_back : (a b : List Item) (p q : List ℕ) (w : Written) (l : List ℕ) → Ready (a ++ b) (p ++ q) w l → Ready b q (appended w a) (drop (length p) l)
+pub ready_back : (a b : List Item) (p q : List ℕ) (w : Written) (l : List ℕ) → Ready (a ++ b) (p ++ q) w l
+    → Ready b q (appended w a) (drop (length p) l)
 ready_back a b p q w l ready =
     let size = length-append a b in
     record {
@@ -91,7 +102,8 @@ pub noted_twice : (n : Noted) (a b : List ℕ) → noted (noted n a) b ≡ noted
 noted_twice n a b =
     let size = length-append a b in
     let room : n.room - length a - length b ≡ n.room - length (a ++ b) = omega arith in
-    ap (λ q. record { numbers = q; room = n.room - length a - length b }) (append_assoc n.numbers a b) ∙ ap (λ q. record { numbers = n.numbers ++ (a ++ b); room = q }) room
+    ap (λ q. record { numbers = q; room = n.room - length a - length b }) (append_assoc n.numbers a b)
+    ∙ ap (λ q. record { numbers = n.numbers ++ (a ++ b); room = q }) room
 
 seam : (xs ys : List ℕ) (y a : ℕ) → slice_set (xs ++ y ∷ ys) (length xs) a ≡ xs ++ a ∷ ys
 seam [] ys y a = refl
@@ -105,22 +117,27 @@ set_second xs ys a b =
     ∙ append_assoc xs (a ∷ []) (b ∷ ys)
 
 -- two lengths that were reserved before others
-pub set_both : (xs p q : List ℕ) (a b : ℕ) → slice_set (slice_set (xs ++ 0 ∷ 0 ∷ [] ++ p ++ q) (length xs) a) (length xs + 1) b ≡ xs ++ (a ∷ b ∷ (p ++ q))
+pub set_both : (xs p q : List ℕ) (a b : ℕ)
+    → slice_set (slice_set (xs ++ 0 ∷ 0 ∷ [] ++ p ++ q) (length xs) a) (length xs + 1) b ≡ xs ++ (a ∷ b ∷ (p ++ q))
 set_both xs p q a b =
-    let whole : xs ++ 0 ∷ 0 ∷ [] ++ p ++ q ≡ xs ++ 0 ∷ 0 ∷ (p ++ q) = append_assoc (xs ++ 0 ∷ 0 ∷ []) p q ∙ append_assoc xs (0 ∷ 0 ∷ []) (p ++ q) in
+    let whole : xs ++ 0 ∷ 0 ∷ [] ++ p ++ q ≡ xs ++ 0 ∷ 0 ∷ (p ++ q) = append_assoc (xs ++ 0 ∷ 0 ∷ []) p q
+    ∙ append_assoc xs (0 ∷ 0 ∷ []) (p ++ q) in
     ap (λ r. slice_set (slice_set r (length xs) a) (length xs + 1) b) whole
     ∙ ap (λ r. slice_set r (length xs + 1) b) (seam xs (0 ∷ (p ++ q)) 0 a)
     ∙ set_second xs (p ++ q) a b
 
 -- the second of two parts has its room
-pub room_left : (n0 n1 n2 : Noted) (ps qs : List ℕ) → n1 ≡ noted n0 (0 ∷ 0 ∷ []) → n2 ≡ noted n1 ps → 2 + length ps + length qs ≤ n0.room → length qs ≤ n2.room
+pub room_left : (n0 n1 n2 : Noted) (ps qs : List ℕ) → n1 ≡ noted n0 (0 ∷ 0 ∷ []) → n2 ≡ noted n1 ps
+    → 2 + length ps + length qs ≤ n0.room → length qs ≤ n2.room
 room_left n0 n1 n2 ps qs e1 e2 room =
     let r1 : n1.room ≡ n0.room - 2 = ap (λ n. n.room) e1 in
     let r2 : n2.room ≡ n1.room - length ps = ap (λ n. n.room) e2 in
     omega arith
 
-pub two_noted : (n0 n1 n2 n3 n4 : Noted) (at a b : ℕ) (ps qs : List ℕ) → at ≡ length n0.numbers → n1 ≡ noted n0 (0 ∷ 0 ∷ []) → n2 ≡ noted n1 ps → n3 ≡ noted n2 qs
-    → n4 ≡ record { numbers = slice_set (slice_set n3.numbers at a) (at + 1) b; room = n3.room } → n4 ≡ noted n0 (a ∷ b ∷ (ps ++ qs))
+pub two_noted : (n0 n1 n2 n3 n4 : Noted) (at a b : ℕ) (ps qs : List ℕ) → at ≡ length n0.numbers
+    → n1 ≡ noted n0 (0 ∷ 0 ∷ []) → n2 ≡ noted n1 ps → n3 ≡ noted n2 qs
+    → n4 ≡ record { numbers = slice_set (slice_set n3.numbers at a) (at + 1) b; room = n3.room }
+    → n4 ≡ noted n0 (a ∷ b ∷ (ps ++ qs))
 two_noted n0 n1 n2 n3 n4 at a b ps qs here e1 e2 e3 e4 =
     let x1 : n1.numbers ≡ n0.numbers ++ 0 ∷ 0 ∷ [] = ap (λ n. n.numbers) e1 in
     let x2 : n2.numbers ≡ n1.numbers ++ ps = ap (λ n. n.numbers) e2 in
@@ -131,9 +148,12 @@ two_noted n0 n1 n2 n3 n4 at a b ps qs here e1 e2 e3 e4 =
     let size = length-append ps qs in
     let all : n3.numbers ≡ n0.numbers ++ 0 ∷ 0 ∷ [] ++ ps ++ qs = x3 ∙ ap (λ x. x ++ qs) (x2 ∙ ap (λ x. x ++ ps) x1) in
     let numbers : slice_set (slice_set n3.numbers at a) (at + 1) b ≡ n0.numbers ++ (a ∷ b ∷ (ps ++ qs)) =
-    ap (λ x. slice_set (slice_set x at a) (at + 1) b) all ∙ ap (λ i. slice_set (slice_set (n0.numbers ++ 0 ∷ 0 ∷ [] ++ ps ++ qs) i a) (i + 1) b) here ∙ set_both n0.numbers ps qs a b in
+    ap (λ x. slice_set (slice_set x at a) (at + 1) b) all
+    ∙ ap (λ i. slice_set (slice_set (n0.numbers ++ 0 ∷ 0 ∷ [] ++ ps ++ qs) i a) (i + 1) b) here
+    ∙ set_both n0.numbers ps qs a b in
     let room : n3.room ≡ n0.room - length (a ∷ b ∷ (ps ++ qs)) = omega arith in
-    e4 ∙ ap (λ x. record { numbers = x; room = n3.room }) numbers ∙ ap (λ r. record { numbers = n0.numbers ++ (a ∷ b ∷ (ps ++ qs)); room = r }) room
+    e4 ∙ ap (λ x. record { numbers = x; room = n3.room }) numbers
+    ∙ ap (λ r. record { numbers = n0.numbers ++ (a ∷ b ∷ (ps ++ qs)); room = r }) room
 
 -- ---- flags
 
@@ -154,7 +174,8 @@ or_assoc true b c = refl
 or_assoc false b c = refl
 
 -- a flag is set where it was, or where its number is among those that were marked
-pub flag_of : (flags : List Bool) (xs : List ℕ) (r : ℕ) → r < length flags → get_or (marked flags xs) r false ≡ (get_or flags r false || is_in xs r)
+pub flag_of : (flags : List Bool) (xs : List ℕ) (r : ℕ) → r < length flags
+    → get_or (marked flags xs) r false ≡ (get_or flags r false || is_in xs r)
 flag_of flags [] r inside = or_nothing (get_or flags r false)
 flag_of flags (x ∷ xs) r inside =
     let size : length (slice_set flags x true) ≡ length flags = length-set flags x true in
@@ -163,5 +184,8 @@ flag_of flags (x ∷ xs) r inside =
     ∙ or_assoc (get_or flags r false) (x == r) (is_in xs r)
   where
     by : (b : Bool) → (x == r) ≡ b → get_or (slice_set flags x true) r false ≡ (get_or flags r false || (x == r))
-    by true e = let same : x ≡ r = grind (arith, nat_tests) in rw e (subst (λ q. get_or (slice_set flags q true) r false ≡ (get_or flags r false || true)) (sym same) (get_or-set_same flags r true false inside ∙ sym (or_true (get_or flags r false))))
-    by false e = let other : r ≢ x = grind (arith, nat_tests) in rw e (get_or-set_other flags x r true false other ∙ or_nothing (get_or flags r false))
+    by true e = let same : x ≡ r = grind (arith, nat_tests) in
+        rw e (subst (λ q. get_or (slice_set flags q true) r false ≡ (get_or flags r false || true)) (sym same)
+        (get_or-set_same flags r true false inside ∙ sym (or_true (get_or flags r false))))
+    by false e = let other : r ≢ x = grind (arith, nat_tests) in
+        rw e (get_or-set_other flags x r true false other ∙ or_nothing (get_or flags r false))

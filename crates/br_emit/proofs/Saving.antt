@@ -1,5 +1,6 @@
 -- The registers that a function saves, as those of a set.
-use Rattle.std.proofs.Common.{◌≡◌, ℕ, zero, suc, ◌+◌, ◌-◌, ◌<◌, ◌≤◌, if◌then◌else◌, Bool, true, false, List, [], ◌∷◌, ◌++◌, length, refl, sym, ap, ◌∙◌, arith, append_assoc, length-append}
+use Rattle.std.proofs.Common.{◌≡◌, ℕ, zero, suc, ◌+◌, ◌-◌, ◌<◌, ◌≤◌, if◌then◌else◌, Bool, true, false, List}
+use Rattle.std.proofs.Common.{[], ◌∷◌, ◌++◌, length, refl, sym, ap, ◌∙◌, arith, append_assoc, length-append}
 use Rattle.std.specs.Prelude.{All, filter}
 use Rattle.std.proofs.lemmas.List.Elements.{All-nil, All-cons}
 use Rattle.br_flatimp.specs.declared.program.FlatFunc.{FlatFunc}
@@ -18,11 +19,13 @@ filter_step p r rs = pick (p r)
     pick true = refl
     pick false = refl
 
-pub keep_more : (p : ℕ → Bool) (found found' whole : List ℕ) (r : ℕ) → r < 32 → found' ≡ found ++ one_if (p r) r → found ++ filter p (count_up r (32 - r)) ≡ whole
+pub keep_more : (p : ℕ → Bool) (found found' whole : List ℕ) (r : ℕ) → r < 32 → found' ≡ found ++ one_if (p r) r
+    → found ++ filter p (count_up r (32 - r)) ≡ whole
     → found' ++ filter p (count_up (r + 1) (32 - (r + 1))) ≡ whole
 keep_more p found found' whole r inside new before =
     let n : 32 - r ≡ suc (32 - (r + 1)) = omega arith in
-    let step : filter p (count_up r (32 - r)) ≡ one_if (p r) r ++ filter p (count_up (r + 1) (32 - (r + 1))) = ap (λ n. filter p (count_up r n)) n ∙ filter_step p r (count_up (r + 1) (32 - (r + 1))) in
+    let step : filter p (count_up r (32 - r)) ≡ one_if (p r) r ++ filter p (count_up (r + 1) (32 - (r + 1))) =
+    ap (λ n. filter p (count_up r n)) n ∙ filter_step p r (count_up (r + 1) (32 - (r + 1))) in
     ap (λ f. f ++ filter p (count_up (r + 1) (32 - (r + 1)))) new
     ∙ append_assoc found (one_if (p r) r) (filter p (count_up (r + 1) (32 - (r + 1))))
     ∙ ap (λ q. found ++ q) (sym step)
@@ -32,13 +35,15 @@ one_most : (b : Bool) (r : ℕ) → length (one_if b r) ≤ 1
 one_most true r = omega arith
 one_most false r = omega arith
 
-pub keep_few : (b : Bool) (found found' : List ℕ) (r : ℕ) → found' ≡ found ++ one_if b r → length found + 2 ≤ r → length found' + 2 ≤ r + 1
+pub keep_few : (b : Bool) (found found' : List ℕ) (r : ℕ) → found' ≡ found ++ one_if b r → length found + 2 ≤ r
+    → length found' + 2 ≤ r + 1
 keep_few b found found' r new few =
     let size = ap length new ∙ length-append found (one_if b r) in
     let one = one_most b r in
     omega arith
 
-filter_same : (p q : ℕ → Bool) (a n : ℕ) → ((r : ℕ) → r < a + n → p r ≡ q r) → filter p (count_up a n) ≡ filter q (count_up a n)
+filter_same : (p q : ℕ → Bool) (a n : ℕ) → ((r : ℕ) → r < a + n → p r ≡ q r)
+    → filter p (count_up a n) ≡ filter q (count_up a n)
 filter_same p q a zero same = refl
 filter_same p q a (suc n) same =
     filter_step p a (count_up (a + 1) n)
@@ -50,7 +55,8 @@ small : (p : ℕ → Bool) (a n : ℕ) → a + n ≤ 32 → All (λ r. r < 32) (
 small p a zero less = All-nil (λ r. r < 32)
 small p a (suc n) less = pick (p a) (small p (a + 1) n (omega arith)) (omega arith)
   where
-    pick : (b : Bool) → All (λ r. r < 32) (filter p (count_up (a + 1) n)) → a < 32 → All (λ r. r < 32) (if b then a ∷ filter p (count_up (a + 1) n) else filter p (count_up (a + 1) n))
+    pick : (b : Bool) → All (λ r. r < 32) (filter p (count_up (a + 1) n)) → a < 32
+        → All (λ r. r < 32) (if b then a ∷ filter p (count_up (a + 1) n) else filter p (count_up (a + 1) n))
     pick true h k = All-cons (λ r. r < 32) a (filter p (count_up (a + 1) n)) k h
     pick false h k = h
 
@@ -61,7 +67,8 @@ filter_most : (p : ℕ → Bool) (xs : List ℕ) → length (filter p xs) ≤ le
 filter_most p [] = omega arith
 filter_most p (x ∷ xs) = pick (p x) (filter_most p xs)
   where
-    pick : (b : Bool) → length (filter p xs) ≤ length xs → length (if b then x ∷ filter p xs else filter p xs) ≤ suc (length xs)
+    pick : (b : Bool) → length (filter p xs) ≤ length xs
+        → length (if b then x ∷ filter p xs else filter p xs) ≤ suc (length xs)
     pick true h = omega arith
     pick false h = omega arith
 
@@ -69,19 +76,23 @@ pub saves_few : (forgets : Forgets) (n : ℕ) (f : FlatFunc) → length (saves f
 saves_few forgets n f = filter_most (is_saved forgets n f) registers
 
 -- the registers of a set that are the ones to save
-pub saves_from : (set : ℕ) (forgets : Forgets) (n : ℕ) (f : FlatFunc) → ((r : ℕ) → r < 32 → has set r ≡ is_saved forgets n f r) → filter (has set) registers ≡ saves forgets n f
+pub saves_from : (set : ℕ) (forgets : Forgets) (n : ℕ) (f : FlatFunc)
+    → ((r : ℕ) → r < 32 → has set r ≡ is_saved forgets n f r) → filter (has set) registers ≡ saves forgets n f
 saves_from set forgets n f same = filter_same (has set) (is_saved forgets n f) 3 29 (λ r inside. same r inside)
 
 pub framed_few : (near : Bool) (forgets : Forgets) (n : ℕ) (f : FlatFunc) → length (framed near forgets n f) ≤ 30
 framed_few near forgets n f = by (touches near forgets f 1) (saves_few forgets n f)
   where
-    by : (t : Bool) → length (saves forgets n f) ≤ 29 → length (if t then 1 ∷ saves forgets n f else saves forgets n f) ≤ 30
+    by : (t : Bool) → length (saves forgets n f) ≤ 29
+        → length (if t then 1 ∷ saves forgets n f else saves forgets n f) ≤ 30
     by true h = omega arith
     by false h = omega arith
 
-pub framed_small : (near : Bool) (forgets : Forgets) (n : ℕ) (f : FlatFunc) → All (λ r. r < 32) (framed near forgets n f)
+pub framed_small : (near : Bool) (forgets : Forgets) (n : ℕ) (f : FlatFunc)
+    → All (λ r. r < 32) (framed near forgets n f)
 framed_small near forgets n f = by (touches near forgets f 1) (saves_small forgets n f)
   where
-    by : (t : Bool) → All (λ r. r < 32) (saves forgets n f) → All (λ r. r < 32) (if t then 1 ∷ saves forgets n f else saves forgets n f)
+    by : (t : Bool) → All (λ r. r < 32) (saves forgets n f)
+        → All (λ r. r < 32) (if t then 1 ∷ saves forgets n f else saves forgets n f)
     by true h = All-cons (λ r. r < 32) 1 (saves forgets n f) (omega arith) h
     by false h = h

@@ -9,9 +9,11 @@ pub record Written : Type 0 where
 
 -- with the words of items after them
 abbrev pub appended : Written → List Item → Written
-appended w items = record { words = w.words ++ words_at (length w.words) items; room = w.room - length items }
+appended w items =
+    record { words = w.words ++ words_at (length w.words) items; room = w.room - length items }
 
--- a buffer of code: its words, the offsets of its functions, and the room for more words, functions and calls
+-- a buffer of code: its words, the offsets of its functions, and the
+-- room for more words, functions and calls
 pub record Held : Type 0 where
   pub words : List ℕ
   pub offsets : List ℕ

@@ -1,7 +1,9 @@
--- The code of flat statements in register form: the name n is the register n, x2 is the stack pointer, and x1
--- is used by calls, where a jump is far, and for the address of a table. Items do not depend on where they stand: only
--- the word of a near call does.
-use Rattle.std.specs.Prelude.{not, true, false, filter, ℕ, zero, suc, ◌+◌, ◌-◌, ◌*◌, ◌/◌, ◌%◌, ◌^◌, ◌<◌, nat_lt, nat_le, ◌==◌, ◌&&◌, ◌||◌, if◌then◌else◌, Bool, ℤ, pos, negsuc, List, [], ◌∷◌, ◌++◌, length, map}
+-- The code of flat statements in register form: the name n is the register n, x2 is the stack
+-- pointer, and x1 is used by calls, where a jump is far, and for the address of a table. Items do
+-- not depend on where they stand: only the word of a near call does.
+use Rattle.std.specs.Prelude.{not, true, false, filter, ℕ, zero, suc, ◌+◌, ◌-◌, ◌*◌, ◌/◌}
+use Rattle.std.specs.Prelude.{◌%◌, ◌^◌, ◌<◌, nat_lt, nat_le, ◌==◌, ◌&&◌, ◌||◌, if◌then◌else◌}
+use Rattle.std.specs.Prelude.{Bool, ℤ, pos, negsuc, List, [], ◌∷◌, ◌++◌, length, map}
 use Rattle.std.specs.List.{flat_map, list_all, list_any}
 use Rattle.br_words.specs.declared.layout.Layout.TheVariants as layout
 use Rattle.br_words.specs.Layout.{code_base, stack_end}
@@ -27,17 +29,22 @@ use Rattle.br_flatimp.specs.Liveness.{is_in}
 use Rattle.br_flatimp.specs.Sizes.{nest}
 use Rattle.br_flatimp.specs.Runs.{Forgets}
 use Rattle.br_rv32im.specs.declared.instruction.Ins.{Ins}
-use Rattle.br_rv32im.specs.declared.instruction.Ins.TheVariants.{Upper, Jal, Jalr, Branch, Load, Store, Imm, Shift, Reg, Ecall}
+use Rattle.br_rv32im.specs.declared.instruction.Ins.TheVariants.{Upper, Jal, Jalr, Branch, Load}
+use Rattle.br_rv32im.specs.declared.instruction.Ins.TheVariants.{Store, Imm, Shift, Reg, Ecall}
 use Rattle.br_rv32im.specs.declared.instruction.UpperOp.TheVariants.{Lui, Auipc}
 use Rattle.br_rv32im.specs.declared.instruction.BranchOp.{BranchOp}
-use Rattle.br_rv32im.specs.declared.instruction.BranchOp.TheVariants.{Beq, Bne, Blt, Bge, Bltu, Bgeu}
+use Rattle.br_rv32im.specs.declared.instruction.BranchOp.TheVariants.{Beq, Bne, Blt}
+use Rattle.br_rv32im.specs.declared.instruction.BranchOp.TheVariants.{Bge, Bltu, Bgeu}
 use Rattle.br_rv32im.specs.declared.instruction.LoadOp.{LoadOp}
 use Rattle.br_rv32im.specs.declared.instruction.LoadOp.TheVariants.{Lw, Lbu, Lhu}
 use Rattle.br_rv32im.specs.declared.instruction.StoreOp.{StoreOp}
 use Rattle.br_rv32im.specs.declared.instruction.StoreOp.TheVariants.{Sb, Sh, Sw}
-use Rattle.br_rv32im.specs.declared.instruction.ImmOp.TheVariants.{Addi, Slti, Sltiu, Xori, Ori, Andi}
+use Rattle.br_rv32im.specs.declared.instruction.ImmOp.TheVariants.{Addi, Slti, Sltiu}
+use Rattle.br_rv32im.specs.declared.instruction.ImmOp.TheVariants.{Xori, Ori, Andi}
 use Rattle.br_rv32im.specs.declared.instruction.ShiftOp.TheVariants.{Slli, Srli, Srai}
-use Rattle.br_rv32im.specs.declared.instruction.RegOp.TheVariants.{Add, Sub, Sll, Slt, Sltu, Xor, Srl, Sra, Or, And, Mul, Mulhu, Divu, Remu}
+use Rattle.br_rv32im.specs.declared.instruction.RegOp.TheVariants.{Add, Sub, Sll, Slt, Sltu}
+use Rattle.br_rv32im.specs.declared.instruction.RegOp.TheVariants.{Xor, Srl, Sra, Or, And}
+use Rattle.br_rv32im.specs.declared.instruction.RegOp.TheVariants.{Mul, Mulhu, Divu, Remu}
 use Rattle.br_rv32im.specs.Encoding.{word_of, Fits}
 
 -- the address of a word of code, by its place
@@ -56,8 +63,8 @@ is_near w = nat_lt w (2 ^ 20) || nat_le (2 ^ 32 - 2 ^ 20) w
 abbrev pub is_reached : ℕ → Bool
 is_reached w = is_near w && (w % 4 == 0)
 
--- a word of code: an instruction, four bytes of a table, or a jump to an address that leaves the address after
--- it in x1
+-- a word of code: an instruction, four bytes of a table, or a jump to an address
+-- that leaves the address after it in x1
 pub data Item : Type 0 where
   Does : Ins → Item
   Raw : (a b c d : ℕ) → Item
@@ -68,7 +75,8 @@ abbrev pub item_word : ℕ → Item → ℕ
 item_word place (Does i) = word_of i
 item_word place (Raw a b c d) = number_of (a ∷ b ∷ c ∷ d ∷ [])
 item_word place (Links target) =
-    if is_reached (distance_to place target) then word_of (Jal 1 (signed (distance_to place target))) else 0
+    if is_reached (distance_to place target)
+    then word_of (Jal 1 (signed (distance_to place target))) else 0
 
 -- the words of items that stand from a place on
 abbrev pub words_at : ℕ → List Item → List ℕ
@@ -173,8 +181,8 @@ store_op Four = Sw
 
 -- ---- jumps
 
--- a jump by so many bytes modulo 2 ^ 32, a multiple of 4, from its first word, which leaves the address after
--- it in `link`: one word where the distance has 21 bits, else two
+-- a jump by so many bytes modulo 2 ^ 32, a multiple of 4, from its first word, which leaves the
+-- address after it in `link`: one word where the distance has 21 bits, else two
 abbrev pub jump_items : ℕ → ℕ → List Item
 jump_items link w =
     if is_near w then Does (Jal link (signed w)) ∷ []
@@ -182,7 +190,8 @@ jump_items link w =
 
 -- a jump over the n words after it
 abbrev pub over_items : ℕ → ℕ → List Item
-over_items link n = if nat_lt (4 * (n + 1)) (2 ^ 20) then jump_items link (4 * (n + 1)) else jump_items link (4 * (n + 2))
+over_items link n = if nat_lt (4 * (n + 1)) (2 ^ 20) then jump_items link (4 * (n + 1))
+    else jump_items link (4 * (n + 2))
 
 -- a branch's relation and its registers
 pub record Branching : Type 0 where
@@ -227,7 +236,8 @@ skip_items c n =
 abbrev pub back_items : Branching → ℕ → List Item
 back_items c n =
     if nat_le (4 * n) 4096 then branch_item c (signed ((2 ^ 32 - 4 * n) % 2 ^ 32)) ∷ []
-    else (let far = jump_items 0 (2 ^ 32 - 4 * (n + 1)) in branch_item (otherwise c) (pos (4 * (1 + length far))) ∷ far)
+    else (let far = jump_items 0 (2 ^ 32 - 4 * (n + 1)) in
+    branch_item (otherwise c) (pos (4 * (1 + length far))) ∷ far)
 
 -- ---- tables
 
@@ -243,7 +253,8 @@ table_words (a ∷ b ∷ c ∷ d ∷ bytes) = Raw a b c d ∷ table_words bytes
 abbrev pub table_items : ℕ → Size → List ℕ → ℕ → List Item
 table_items x size bytes y =
     let words = table_words bytes
-    in over_items 1 (length words) ++ (words ++ (Does (Reg Add 1 1 y) ∷ Does (Load (load_op size) x 1 (pos 0)) ∷ []))
+    in over_items 1 (length words)
+    ++ (words ++ (Does (Reg Add 1 1 y) ∷ Does (Load (load_op size) x 1 (pos 0)) ∷ []))
 
 -- ---- buffers
 
@@ -261,38 +272,47 @@ if_items c first [] = skip_items (otherwise c) (length first) ++ first
 if_items c [] (i ∷ second) = skip_items c (length (i ∷ second)) ++ (i ∷ second)
 if_items c (k ∷ first) (i ∷ second) =
     let over = over_items 0 (length (i ∷ second))
-    in skip_items (otherwise c) (length (k ∷ first) + length over) ++ ((k ∷ first) ++ (over ++ (i ∷ second)))
+    in skip_items (otherwise c) (length (k ∷ first) + length over)
+    ++ ((k ∷ first) ++ (over ++ (i ∷ second)))
 
 -- the test stands at the end, after the first part
 abbrev pub loop_items : List Item → Branching → List Item → List Item
 loop_items first c [] = first ++ back_items c (length first)
 loop_items first c (k ∷ last) =
-    over_items 0 (length (k ∷ last)) ++ ((k ∷ last) ++ (first ++ back_items c (length (k ∷ last) + length first)))
+    over_items 0 (length (k ∷ last))
+    ++ ((k ∷ last) ++ (first ++ back_items c (length (k ∷ last) + length first)))
 
--- the items of statements in turn, each for the bytes that are free between the stack pointer and the buffers
+-- the items of statements in turn, each for the bytes that are free
+-- between the stack pointer and the buffers
 abbrev pub in_turn_items : List (ℕ → List Item) → ℕ → List Item
 in_turn_items codes free = flat_map (λ code. code free) codes
 
--- a call of the code at an address, which leaves the address after it in x1: one jump where the whole code is in
--- the reach of JAL
+-- a call of the code at an address, which leaves the address after it in x1: one jump where
+-- the whole code is in the reach of JAL
 abbrev pub call_items : Bool → ℕ → List Item
 call_items near target =
-    if near then Links target ∷ [] else Does (Upper Lui 1 (high_part target)) ∷ Does (Jalr 1 1 (low_part target)) ∷ []
+    if near then Links target ∷ []
+    else Does (Upper Lui 1 (high_part target)) ∷ Does (Jalr 1 1 (low_part target)) ∷ []
 
--- where the code of each function stands that is called, by its number, and whether all of it is near
+-- where the code of each function stands that is called, by its
+-- number, and whether all of it is near
 pub record Targets : Type 0 where
   pub near : Bool
   pub at : ℕ → ℕ
 
--- a statement, given the code of the statements in it, for the bytes that are free above the stack pointer
+-- a statement, given the code of the statements in it, for the bytes
+-- that are free above the stack pointer
 abbrev pub statement_items : Targets → Stmt-F (ℕ → List Item) → ℕ → List Item
 statement_items targets (Stmt-F.Lit x n) free = constant_items x n
 statement_items targets (Stmt-F.Copy x y) free = copy_items x y
 statement_items targets (Stmt-F.Op x o y z) free = op_items x o y z
-statement_items targets (Stmt-F.Load x size y offset) free = Does (Load (load_op size) x y offset) ∷ []
-statement_items targets (Stmt-F.Store size y z offset) free = Does (Store (store_op size) y z offset) ∷ []
+statement_items targets (Stmt-F.Load x size y offset) free =
+    Does (Load (load_op size) x y offset) ∷ []
+statement_items targets (Stmt-F.Store size y z offset) free =
+    Does (Store (store_op size) y z offset) ∷ []
 statement_items targets (Stmt-F.Table x size bytes y) free = table_items x size bytes y
-statement_items targets (Stmt-F.Stackalloc x n body) free = place_items x (free - n) ++ in_turn_items body (free - n)
+statement_items targets (Stmt-F.Stackalloc x n body) free =
+    place_items x (free - n) ++ in_turn_items body (free - n)
 statement_items targets (Stmt-F.If test first second) free =
     if_items (branching test) (in_turn_items first free) (in_turn_items second free)
 statement_items targets (Stmt-F.Loop first test last) free =
@@ -341,7 +361,8 @@ keeps_link (Stmt-F.Loop first test last) = true
 keeps_link (Stmt-F.Read x y) = true
 keeps_link (Stmt-F.Write y z) = true
 
--- a function whose code may change x1: for a table, a call, a far jump, or buffers that no immediate says
+-- a function whose code may change x1: for a table, a call, a far
+-- jump, or buffers that no immediate says
 abbrev pub links : Bool → FlatFunc → Bool
 links near f = not near || (not (list_all (throughout keeps_link) f.body) || nat_lt 2047 (nest f))
 
@@ -349,7 +370,8 @@ links near f = not near || (not (list_all (throughout keeps_link) f.body) || nat
 abbrev pub touches : Bool → Forgets → FlatFunc → Names
 touches near forgets f x = changes forgets f x || ((x == 1) && links near f)
 
--- a register that the function numbered n has to leave as it was: it changes, is no result, and callers may miss it
+-- a register that the function numbered n has to leave as it was: it changes,
+-- is no result, and callers may miss it
 abbrev pub is_saved : Forgets → ℕ → FlatFunc → ℕ → Bool
 is_saved forgets n f x = changes forgets f x && not (is_in f.results x) && not (forgets n x)
 
@@ -366,17 +388,19 @@ abbrev pub restore_items : ℕ → List ℕ → List Item
 restore_items i [] = []
 restore_items i (r ∷ rs) = Does (Load Lw r 2 (pos (4 * i))) ∷ restore_items (i + 1) rs
 
--- the stack pointer moves by so many bytes modulo 2 ^ 32, by way of x1 where an immediate cannot say it
+-- the stack pointer moves by so many bytes modulo 2 ^ 32, by way
+-- of x1 where an immediate cannot say it
 abbrev pub move_items : ℕ → List Item
 move_items n =
     if n == 0 then []
     else if is_short n then Does (Imm Addi 2 2 (low_part n)) ∷ []
     else constant_items 1 n ++ Does (Reg Add 2 2 1) ∷ []
 
--- the registers that the frame of a function has words for: x1 where the function may change it, and those that it
--- has to leave as they were
+-- the registers that the frame of a function has words for: x1 where the function may change it,
+-- and those that it has to leave as they were
 abbrev pub framed : Bool → Forgets → ℕ → FlatFunc → List ℕ
-framed near forgets n f = if touches near forgets f 1 then 1 ∷ saves forgets n f else saves forgets n f
+framed near forgets n f =
+    if touches near forgets f 1 then 1 ∷ saves forgets n f else saves forgets n f
 
 -- the bytes of a frame
 abbrev pub framed_bytes : Bool → Forgets → ℕ → FlatFunc → ℕ
@@ -386,8 +410,8 @@ framed_bytes near forgets n f = 4 * length (framed near forgets n f)
 abbrev pub exit_items : List Item
 exit_items = Does (Jalr 0 1 (pos 0)) ∷ []
 
--- A function that is called: it makes room on the stack and saves, makes room for its buffers, runs, and goes
--- the same way back. What it has no need of takes no word.
+-- A function that is called: it makes room on the stack and saves, makes room for its buffers,
+-- runs, and goes the same way back. What it has no need of takes no word.
 abbrev pub callable_items : Targets → Forgets → ℕ → FlatFunc → List Item
 callable_items targets forgets n f =
     let rs = framed targets.near forgets n f
@@ -400,7 +424,8 @@ callable_items targets forgets n f =
     ++ (restore_items 0 rs
     ++ (move_items bytes ++ exit_items))))))
 
--- an entry whose function is called: it sets the stack pointer to the end of the stack region, and calls it
+-- an entry whose function is called: it sets the stack pointer to the
+-- end of the stack region, and calls it
 abbrev pub entry_items : Bool → ℕ → List Item
 entry_items near target = Does (Upper Lui 2 0x80300) ∷ (call_items near target ++ Does Ecall ∷ [])
 
@@ -419,7 +444,8 @@ is_called fs n = list_any (λ f. list_any (λ g. g == n) (callees f)) fs
 -- the code of a function, and its entry after it, or its entry alone
 abbrev pub function_items : Targets → Forgets → List FlatFunc → ℕ → FlatFunc → List Item
 function_items targets forgets fs n f =
-    if is_called fs n then callable_items targets forgets n f ++ entry_items targets.near (targets.at n) else direct_items targets f
+    if is_called fs n then callable_items targets forgets n f
+    ++ entry_items targets.near (targets.at n) else direct_items targets f
 
 -- functions from number n on, one after another
 abbrev pub program_items : Targets → Forgets → List FlatFunc → ℕ → List FlatFunc → List Item
@@ -431,7 +457,8 @@ program_items targets forgets fs n (f ∷ rest) =
 abbrev pub places : Targets → Forgets → List FlatFunc → ℕ → ℕ → List FlatFunc → List ℕ
 places targets forgets fs place n [] = []
 places targets forgets fs place n (f ∷ rest) =
-    place ∷ places targets forgets fs (place + length (function_items targets forgets fs n f)) (n + 1) rest
+    place ∷ places targets forgets fs
+    (place + length (function_items targets forgets fs n f)) (n + 1) rest
 
 -- the word at which an entry begins, where its function stands at a place
 abbrev pub entry_place : Targets → Forgets → List FlatFunc → ℕ → ℕ → FlatFunc → ℕ

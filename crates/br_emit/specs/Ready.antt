@@ -7,14 +7,16 @@ use Rattle.br_emit.specs.Code.{Item, Branching, Targets}
 use Rattle.br_emit.specs.Sizes.{IsFront}
 use Rattle.br_emit.specs.Buffer.{Written}
 
--- There is room for items, no more of them than the code region has words, and the lengths of the parts in
--- them are the first of those that are left.
-pub record Ready (items : List Item) (parts : List ℕ) (code : Written) (lengths : List ℕ) : Type 0 where
+-- There is room for items, no more of them than the code region has words, and the lengths of the
+-- parts in them are the first of those that are left.
+pub record Ready (items : List Item) (parts : List ℕ) (code : Written)
+    (lengths : List ℕ) : Type 0 where
   pub room : length items ≤ code.room
   pub few : length items ≤ 1048576
   pub front : IsFront parts lengths
 
--- the addresses at which functions stand, in the order of the program, and whether all of the code is near
+-- the addresses at which functions stand, in the order of the
+-- program, and whether all of the code is near
 pub record Aims : Type 0 where
   pub near : Bool
   pub addresses : List ℕ

@@ -1,11 +1,11 @@
 -- Sets of registers as words, bit by bit, and what is found of the registers that calls may change.
-use Rattle.std.specs.Prelude.{◌≡◌, ℕ, ◌<◌, nat_lt, ◌==◌, ◌&&◌, ◌||◌, true, IsTrue, List, Some, slice_get, get_or}
+use Rattle.std.specs.Prelude.{◌≡◌, ℕ, ◌<◌, nat_lt, ◌==◌, ◌&&◌, ◌||◌, true}
+use Rattle.std.specs.Prelude.{IsTrue, List, Some, slice_get, get_or}
 use Rattle.std.specs.Int.{bit_at}
 use Rattle.br_flatimp.specs.declared.program.FlatFunc.{FlatFunc}
-use Rattle.br_flatimp.specs.declared.program.Stmt.{Stmt}
-use Rattle.br_flatimp.specs.declared.program.Stmt.TheFolds.{fold-Stmt}
 use Rattle.br_flatimp.specs.Values.{Names}
-use Rattle.br_flatimp.specs.Parts.{written, read, callees, function_names}
+pub use Rattle.br_flatimp.specs.Parts.{own_written, own_read}
+use Rattle.br_flatimp.specs.Parts.{callees, function_names}
 use Rattle.br_flatimp.specs.Liveness.{is_in}
 use Rattle.br_flatimp.specs.Renaming.{ReadsNoForgotten}
 use Rattle.br_flatimp.specs.Runs.{Forgets}
@@ -30,15 +30,15 @@ forgets_of sets g = has (get_or sets g 0)
 abbrev pub Narrowed : List ℕ → List ℕ → Type 0
 Narrowed sets before = (g x : ℕ) → forgets_of sets g x ≡ true → forgets_of before g x ≡ true
 
--- what a call of another function may change that a function makes, a call of the function itself may change, or
--- it is a name of the function
+-- what a call of another function may change that a function makes, a call of the function itself
+-- may change, or it is a name of the function
 abbrev pub IsClosed : Forgets → List FlatFunc → Type 0
 IsClosed forgets fs =
     (n : ℕ) (f : FlatFunc) → slice_get fs n ≡ Some f → (g : ℕ) → is_in (callees f) g ≡ true
     → (x : ℕ) → forgets g x ≡ true → (forgets n x || is_in (function_names f) x) ≡ true
 
--- The code of a program and the offsets of its entries, where calls may change registers that no function reads
--- after them.
+-- The code of a program and the offsets of its entries, where calls may change
+-- registers that no function reads after them.
 pub record IsWritten (fs : List FlatFunc) (words offsets : List ℕ) : Type 0 where
   pub forgets : Forgets
   pub dead : ReadsNoForgotten forgets fs
@@ -49,14 +49,7 @@ pub record IsWritten (fs : List FlatFunc) (words offsets : List ℕ) : Type 0 wh
 
 -- ---- what is live before statements
 
--- the names that a statement writes itself, and those that it reads
-abbrev pub own_written : Stmt → List ℕ
-own_written = fold-Stmt (List ℕ) written
-
-abbrev pub own_read : Stmt → List ℕ
-own_read = fold-Stmt (List ℕ) read
-
--- What is live before statements, when it is known what is live after them: what they may read first, and what is
--- live after them and they do not surely write.
+-- What is live before statements, when it is known what is live after them: what they may read
+-- first, and what is live after them and they do not surely write.
 abbrev pub handed : Flow → Names → Names
 handed w after x = has w.reads x || (after x && has w.keeps x)

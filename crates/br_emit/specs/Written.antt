@@ -1,5 +1,6 @@
 -- Functions in code, one after another.
-use Rattle.std.specs.Prelude.{◌≡◌, ℕ, ◌+◌, ◌*◌, ◌<◌, ◌≤◌, nat_lt, if◌then◌else◌, Bool, false, IsTrue, List, [], ◌∷◌, ◌++◌, length, map, get_or}
+use Rattle.std.specs.Prelude.{◌≡◌, ℕ, ◌+◌, ◌*◌, ◌<◌, ◌≤◌, nat_lt, if◌then◌else◌, Bool}
+use Rattle.std.specs.Prelude.{false, IsTrue, List, [], ◌∷◌, ◌++◌, length, map, get_or}
 use Rattle.std.specs.List.{AllByRecursion, list_all}
 use Rattle.br_words.specs.declared.layout.Layout.TheVariants.{Two}
 use Rattle.br_words.specs.Layout.{most_words}
@@ -7,20 +8,23 @@ use Rattle.br_flatimp.specs.declared.program.FlatFunc.{FlatFunc}
 use Rattle.br_flatimp.specs.Parts.{throughout}
 use Rattle.br_flatimp.specs.Sizes.{nest, flat_bulk}
 use Rattle.br_flatimp.specs.Runs.{Forgets}
-use Rattle.br_emit.specs.Code.{Item, Targets, address_of, callable_items, entry_items, direct_items, is_called}
+use Rattle.br_emit.specs.Code.{Item, Targets, address_of, callable_items}
+use Rattle.br_emit.specs.Code.{entry_items, direct_items, is_called}
 use Rattle.br_emit.specs.Sizes.{sized_all, begins, entries}
 use Rattle.br_emit.specs.Ready.{Aims, is_encodable}
 
 -- the code of the function numbered n and its entry, or its entry alone
 abbrev pub one_items : Targets → Forgets → Bool → ℕ → ℕ → FlatFunc → List Item
 one_items targets forgets called n target f =
-    if called then callable_items targets forgets n f ++ entry_items targets.near target else direct_items targets f
+    if called then callable_items targets forgets n f ++ entry_items targets.near target
+    else direct_items targets f
 
 -- functions from number n on, one after another
 abbrev pub rest_items : Targets → Forgets → (ℕ → Bool) → ℕ → List FlatFunc → List Item
 rest_items targets forgets called n [] = []
 rest_items targets forgets called n (f ∷ rest) =
-    one_items targets forgets (called n) n (targets.at n) f ++ rest_items targets forgets called (n + 1) rest
+    one_items targets forgets (called n) n (targets.at n) f
+    ++ rest_items targets forgets called (n + 1) rest
 
 -- the flag of a number
 abbrev pub flagged : List Bool → ℕ → Bool
@@ -49,7 +53,8 @@ aims_of forgets fs = record { near = is_near_program fs; addresses = addresses f
 
 -- the offsets of their entries
 abbrev pub entry_offsets : Forgets → List FlatFunc → List ℕ
-entry_offsets forgets fs = map offset_of (entries (is_near_program fs) forgets (is_called fs) 0 0 fs)
+entry_offsets forgets fs =
+    map offset_of (entries (is_near_program fs) forgets (is_called fs) 0 0 fs)
 
 -- the flags say which functions are called
 abbrev pub AreCalled : List Bool → List FlatFunc → Type 0

@@ -1,6 +1,7 @@
 // The one buffer that code is written into.
 
-ghost use Rattle.std.specs.Prelude.{◌≡◌, ◌≤◌, ◌<◌, ◌^◌, ◌++◌, ◌∷◌, [], ◌-◌, All, slice_set, length, IfOk};
+ghost use Rattle.std.specs.Prelude.{◌≡◌, ◌≤◌, ◌<◌, ◌^◌, ◌++◌, ◌∷◌, []};
+ghost use Rattle.std.specs.Prelude.{◌-◌, All, slice_set, length, IfOk};
 
 use crate::code::Code;
 use crate::numbers::Numbers;
@@ -9,17 +10,17 @@ use sqlite_items::Items;
 use std::alloc::Global;
 use std::marker::Model;
 
-/// Code that is being written: words, and the offsets at which functions begin. All its room is taken
-/// when it is made. Contracts see its words, its offsets and its room left for words, functions and
-/// calls.
+/// Code that is being written: words, and the offsets at which functions begin. All its
+/// room is taken when it is made. Contracts see its words, its offsets and its room
+/// left for words, functions and calls.
 #[derive(Drop)]
 pub struct CodeBuffer {
     pub(crate) code: Code,
     pub(crate) offsets: Numbers,
     // A call takes no room: where each function stands is known before a call is written.
     calls: u32,
-    // What is found before a function is written: which functions are called, what calls of them may
-    // change, where they stand, and how long the parts of one function are.
+    // What is found before a function is written: which functions are called, what calls of them
+    // may change, where they stand, and how long the parts of one function are.
     pub(crate) called: Vec<bool>,
     pub(crate) forgotten: Vec<u32>,
     pub(crate) targets: Numbers,
@@ -41,7 +42,9 @@ impl Model for CodeBuffer {
     } };
 
     // What words and functions have room for, there is room to find.
-    ghost invariant = { λ b. (b.code.room ≤ b.lengths.room + length b.lengths.numbers) × (b.offsets.room ≤ vec_capacity b.called) × (b.offsets.room ≤ vec_capacity b.forgotten) × (b.offsets.room ≤ b.targets.room + length b.targets.numbers) };
+    ghost invariant = { λ b. (b.code.room ≤ b.lengths.room + length b.lengths.numbers)
+        × (b.offsets.room ≤ vec_capacity b.called) × (b.offsets.room ≤ vec_capacity b.forgotten)
+        × (b.offsets.room ≤ b.targets.room + length b.targets.numbers) };
 }
 
 impl CodeBuffer {
@@ -78,7 +81,10 @@ impl CodeBuffer {
     /// One more word.
     pub fn push(&mut self, w: u32)
         requires { 0 < self.old.word_room }
-        ensures { self.new ≡ record self.old { words = self.old.words ++ w ∷ []; word_room = self.old.word_room - 1 } }
+        ensures { self.new ≡ record self.old {
+          words = self.old.words ++ w ∷ [];
+          word_room = self.old.word_room - 1;
+        } }
     {
         self.code.push(w);
     }

@@ -1,6 +1,7 @@
 // Which functions of a program are called.
 
-ghost use Rattle.std.specs.Prelude.{◌≡◌, ◌≤◌, ◌++◌, ◌∷◌, [], false, replicate, length, vec_capacity};
+ghost use Rattle.std.specs.Prelude.{◌≡◌, ◌≤◌, ◌++◌, ◌∷◌, [], false};
+ghost use Rattle.std.specs.Prelude.{replicate, length, vec_capacity};
 ghost use Rattle.std.specs.List.{flat_map};
 ghost use Rattle.br_flatimp.specs.Parts.{gathered, own_callees, callees};
 ghost use Rattle.br_emit.specs.Marks.{marked};
@@ -10,7 +11,8 @@ use br_flatimp::{FlatFunc, Stmt};
 /// A flag for each function, which says whether a function calls it, in place of those before.
 pub fn flag_called(flags: &mut Vec<bool>, funcs: &[FlatFunc])
     requires room { length funcs.now ≤ vec_capacity flags.old }
-    ensures flags { flags.new.items ≡ marked (replicate (length funcs.now) false) (flat_map callees funcs.now) }
+    ensures flags { flags.new.items
+        ≡ marked (replicate (length funcs.now) false) (flat_map callees funcs.now) }
     ensures capacity { vec_capacity flags.new ≡ vec_capacity flags.old }
 {
     unflag(flags, funcs.len());
@@ -57,7 +59,8 @@ fn mark_calls(flags: &mut [bool], body: &[Stmt])
 // Sets the flags of the functions that two parts call.
 #[cycle(calling)]
 fn mark_both(flags: &mut [bool], first: &[Stmt], second: &[Stmt])
-    ensures { flags.new ≡ marked flags.old (flat_map (gathered own_callees) first.now ++ flat_map (gathered own_callees) second.now) }
+    ensures { flags.new ≡ marked flags.old (flat_map (gathered own_callees) first.now
+        ++ flat_map (gathered own_callees) second.now) }
 {
     mark_calls(flags, first);
     mark_calls(flags, second);

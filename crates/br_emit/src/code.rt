@@ -1,6 +1,7 @@
 // Words that are written one after another into room that was taken before.
 
-ghost use Rattle.std.specs.Prelude.{◌≡◌, ◌++◌, ◌∷◌, [], ◌-◌, ◌<◌, ◌^◌, All, slice_set, length, IfOk};
+ghost use Rattle.std.specs.Prelude.{◌≡◌, ◌++◌, ◌∷◌, [], ◌-◌, ◌<◌, ◌^◌};
+ghost use Rattle.std.specs.Prelude.{All, slice_set, length, IfOk};
 ghost use Rattle.br_rv32im.specs.Encoding.{Fits};
 ghost use Rattle.br_emit.specs.Code.{Does, Raw};
 ghost use Rattle.br_emit.specs.Buffer.{appended};
@@ -56,7 +57,8 @@ impl Code {
     /// One more word.
     pub fn push(&mut self, word: u32)
         requires { 0 < self.old.room }
-        ensures { self.new ≡ record { words = self.old.words ++ word ∷ []; room = self.old.room - 1 } }
+        ensures { self.new
+            ≡ record { words = self.old.words ++ word ∷ []; room = self.old.room - 1 } }
     {
         self.words.push_reserved(word);
     }
@@ -64,7 +66,8 @@ impl Code {
     /// Another word in place of the one at `at`.
     pub fn patch(&mut self, at: usize, word: u32)
         requires { at < length self.old.words }
-        ensures { self.new ≡ record { words = slice_set self.old.words at word; room = self.old.room } }
+        ensures { self.new
+            ≡ record { words = slice_set self.old.words at word; room = self.old.room } }
     {
         self.words[at] = word;
     }

@@ -7,7 +7,8 @@ ghost use Rattle.br_words.specs.declared.layout.Layout.TheVariants.{Two};
 ghost use Rattle.br_words.specs.Layout.{most_words, most_stack};
 ghost use Rattle.br_flatimp.specs.Sizes.{flat_bulk};
 ghost use Rattle.br_flatimp.specs.WellFormed.{IsRegisterForm};
-ghost use Rattle.br_emit.specs.Emitted.{AreNeeds, AllDescribed, IsOffset, ShowsProgram, HasFewNames, entry_of, entries_of};
+ghost use Rattle.br_emit.specs.Emitted.{AreNeeds, AllDescribed, IsOffset, ShowsProgram};
+ghost use Rattle.br_emit.specs.Emitted.{HasFewNames, entry_of, entries_of};
 ghost use Rattle.br_emit.specs.Registers.{IsWritten};
 ghost use Rattle.br_emit.specs.Written.{CanWrite};
 
@@ -26,11 +27,12 @@ use br_words::Layout;
 use sqlite_items::Items;
 use std::alloc::Global;
 
-/// The image of a program in register form, in the second layout: for each function an entry with its
+/// The image of a program in register form, in the second
+/// layout: for each function an entry with its
 /// name, its counts and its need, and at most as many words of code as the program's flat bulk. Its code
-/// shows each call of each function (Integration Verification across Software and Hardware for a Simple
-/// Embedded System, PLDI 2021). The needs are the bytes of stack of each function, in the order of the
-/// functions. The one error is want of memory.
+/// shows each call of each function (Integration Verification across Software and Hardware for a
+/// Simple Embedded System, PLDI 2021). The needs are the bytes of stack of each function, in the
+/// order of the functions. The one error is want of memory.
 pub fn emit(alloc: Global, p: &FlatProgram, needs: &[u32]) -> Result<Image, NoMemory>
     requires register_form { IsRegisterForm p.now.funcs }
     requires needs { AreNeeds p.now.funcs needs.now }
@@ -54,8 +56,9 @@ pub fn emit(alloc: Global, p: &FlatProgram, needs: &[u32]) -> Result<Image, NoMe
 }
 
 /// Writes the code of a program in register form, and the offset of each function's entry, into a
-/// buffer with nothing in it. With the given needs these make an image as [`emit`] answers it. There has
-/// to be room for the program's flat bulk in words and for each function, and no memory is taken.
+/// buffer with nothing in it. With the given needs these make an image as [`emit`]
+/// answers it. There has to be room for the program's flat bulk in words and for
+/// each function, and no memory is taken.
 pub fn emit_into(p: &FlatProgram, needs: &[u32], code: &mut CodeBuffer)
     requires register_form { IsRegisterForm p.now.funcs }
     requires needs { AreNeeds p.now.funcs needs.now }
@@ -67,9 +70,11 @@ pub fn emit_into(p: &FlatProgram, needs: &[u32], code: &mut CodeBuffer)
     requires function_room { length p.now.funcs ≤ code.old.function_room }
     ensures count { length code.new.offsets ≡ length p.now.funcs }
     ensures offsets { All (IsOffset (length code.new.words)) code.new.offsets }
-    ensures entries { AllDescribed p.now.funcs needs.now (entries_of code.new.offsets needs.now 0 p.now.funcs) }
+    ensures entries { AllDescribed p.now.funcs needs.now
+        (entries_of code.new.offsets needs.now 0 p.now.funcs) }
     ensures words { length code.new.words ≤ flat_bulk p.now.funcs }
-    ensures shows { ShowsProgram p.now.funcs (entries_of code.new.offsets needs.now 0 p.now.funcs) code.new.words }
+    ensures shows { ShowsProgram p.now.funcs (entries_of code.new.offsets needs.now 0 p.now.funcs)
+        code.new.words }
 {
     code_shows_its_program();
     write_into(p.funcs.as_slice(), code);

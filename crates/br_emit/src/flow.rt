@@ -8,8 +8,8 @@ ghost use Rattle.br_emit.specs.Registers.{handed, has, own_read, own_written};
 use crate::sets::{EVERY, all_of, common, union, without};
 use br_flatimp::{Cond, Operand, Stmt};
 
-/// The registers that statements may read before they write them, and those that they may leave as they
-/// were.
+/// The registers that statements may read before they write them, and
+/// those that they may leave as they were.
 #[derive(Clone, Copy)]
 pub struct Flow {
     pub reads: u32,
@@ -118,7 +118,8 @@ pub fn at_test(first: Flow, test: u32, last: Flow) -> Flow
 /// What statements do in turn.
 #[cycle(flowing)]
 pub fn flow_of_all(body: &[Stmt]) -> Flow
-    ensures { (after : Names) (x : ℕ) → x < 32 → handed result after x ≡ before_all body.now after x }
+    ensures { (after : Names) (x : ℕ) → x < 32 →
+        handed result after x ≡ before_all body.now after x }
 {
     let mut so_far = still();
     for s in body {

@@ -1,8 +1,9 @@
-// The registers that a call of each function may change beside its results: those that no caller misses.
-// They are live after no call of it, and each of its callers has them among its names or may change them
-// too. A function that nobody calls may change each register.
+// The registers that a call of each function may change beside its results: those that no caller
+// misses. They are live after no call of it, and each of its callers has them among its names or
+// may change them too. A function that nobody calls may change each register.
 
-ghost use Rattle.std.specs.Prelude.{◌≡◌, ℕ, ◌≤◌, ◌&&◌, ◌||◌, ◌++◌, true, false, length, map, vec_capacity};
+ghost use Rattle.std.specs.Prelude.{◌≡◌, ℕ, ◌≤◌, ◌&&◌, ◌||◌, ◌++◌, true};
+ghost use Rattle.std.specs.Prelude.{false, length, map, vec_capacity};
 ghost use Rattle.std.specs.List.{AllByRecursion, flat_map};
 ghost use Rattle.br_flatimp.specs.Liveness.{function_moments, is_in, live, moments};
 ghost use Rattle.br_flatimp.specs.Parts.{callees, function_names, gathered, own_callees};
@@ -15,8 +16,8 @@ use crate::flow::{apply, at_test, flow_of, flow_of_all, read_by};
 use crate::sets::{EVERY, all_of, common, is_within, set_at, union, without};
 use br_flatimp::{FlatFunc, Stmt};
 
-// How often the names of callers are looked at, at most. A time more is needed where a function stands
-// before a caller of it whose own set has changed.
+// How often the names of callers are looked at, at most. A time more is needed where a function
+// stands before a caller of it whose own set has changed.
 const ROUNDS: u32 = 32;
 
 /// As many sets with every register as there are functions, in place of those before.
@@ -116,8 +117,8 @@ fn note(sets: &mut [u32], s: &Stmt, after: u32)
 
 // ---- names of callers
 
-// Takes out of each set what is no name of a caller, and in no caller's set. Where that does not come to
-// an end soon, no call may change any register.
+// Takes out of each set what is no name of a caller, and in no caller's set. Where that does not
+// come to an end soon, no call may change any register.
 fn settle(sets: &mut [u32], funcs: &[FlatFunc])
     ensures narrowed { Narrowed sets.new sets.old }
     ensures closed { IsClosed (forgets_of sets.new) funcs.now }
@@ -136,8 +137,8 @@ fn empty(sets: &mut [u32])
     }
 }
 
-// Takes out of the sets what callers do not allow until there is nothing to take, and answers whether it
-// came to that.
+// Takes out of the sets what callers do not allow until there is nothing to
+// take, and answers whether it came to that.
 fn narrow_often(sets: &mut [u32], funcs: &[FlatFunc]) -> bool
     ensures narrowed { Narrowed sets.new sets.old }
     ensures closed { result ≡ true → IsClosed (forgets_of sets.new) funcs.now }
@@ -151,8 +152,8 @@ fn narrow_often(sets: &mut [u32], funcs: &[FlatFunc]) -> bool
     steady
 }
 
-// Takes out of the sets once what callers do not allow, from the last function to the first, and answers
-// whether there was nothing to take.
+// Takes out of the sets once what callers do not allow, from the last function to the first, and
+// answers whether there was nothing to take.
 fn narrow_program(sets: &mut [u32], funcs: &[FlatFunc]) -> bool
     ensures narrowed { Narrowed sets.new sets.old }
     ensures closed { result ≡ true → IsClosed (forgets_of sets.new) funcs.now }
@@ -167,12 +168,13 @@ fn narrow_program(sets: &mut [u32], funcs: &[FlatFunc]) -> bool
     steady
 }
 
-// Takes out of the sets of the callees of the function numbered n what is no name of it, and not in its
-// own set.
+// Takes out of the sets of the callees of the function numbered n what is
+// no name of it, and not in its own set.
 fn narrow_callees(sets: &mut [u32], n: usize, f: &FlatFunc) -> bool
     ensures narrowed { Narrowed sets.new sets.old }
     ensures same { result ≡ true → sets.new ≡ sets.old }
-    ensures closed { result ≡ true → (g : ℕ) → is_in (callees f.now) g ≡ true → (x : ℕ) → forgets_of sets.old g x ≡ true →
+    ensures closed { result ≡ true → (g : ℕ) → is_in (callees f.now) g ≡ true → (x : ℕ) →
+        forgets_of sets.old g x ≡ true →
         (forgets_of sets.old n x || is_in (function_names f.now) x) ≡ true }
 {
     let own = union(set_at(sets, n), names_of(f));
@@ -185,13 +187,14 @@ fn both(a: bool, b: bool) -> bool
     a && b
 }
 
-// Takes out of the sets of functions that statements call what is not allowed, and answers whether there
-// was nothing to take.
+// Takes out of the sets of functions that statements call what is not allowed, and
+// answers whether there was nothing to take.
 #[cycle(narrowing)]
 fn narrow_all(sets: &mut [u32], body: &[Stmt], allowed: u32) -> bool
     ensures narrowed { Narrowed sets.new sets.old }
     ensures same { result ≡ true → sets.new ≡ sets.old }
-    ensures within { result ≡ true → (g : ℕ) → is_in (flat_map (gathered own_callees) body.now) g ≡ true →
+    ensures within { result ≡ true → (g : ℕ) →
+        is_in (flat_map (gathered own_callees) body.now) g ≡ true →
         (x : ℕ) → forgets_of sets.old g x ≡ true → has allowed x ≡ true }
 {
     let mut within = true;
@@ -207,7 +210,8 @@ fn narrow_two(sets: &mut [u32], first: &[Stmt], second: &[Stmt], allowed: u32) -
     ensures narrowed { Narrowed sets.new sets.old }
     ensures same { result ≡ true → sets.new ≡ sets.old }
     ensures within { result ≡ true → (g : ℕ) →
-        is_in (flat_map (gathered own_callees) first.now ++ flat_map (gathered own_callees) second.now) g ≡ true →
+        is_in (flat_map (gathered own_callees) first.now
+        ++ flat_map (gathered own_callees) second.now) g ≡ true →
         (x : ℕ) → forgets_of sets.old g x ≡ true → has allowed x ≡ true }
 {
     let one = narrow_all(sets, first, allowed);
@@ -247,7 +251,8 @@ fn narrow(sets: &mut [u32], s: &Stmt, allowed: u32) -> bool
 fn narrow_one(sets: &mut [u32], g: u32, allowed: u32) -> bool
     ensures narrowed { Narrowed sets.new sets.old }
     ensures same { result ≡ true → sets.new ≡ sets.old }
-    ensures within { result ≡ true → (x : ℕ) → forgets_of sets.old g x ≡ true → has allowed x ≡ true }
+    ensures within { result ≡ true → (x : ℕ) → forgets_of sets.old g x ≡ true →
+        has allowed x ≡ true }
 {
     let set = set_at(sets, g as usize);
     if is_within(set, allowed) {

@@ -3,7 +3,8 @@
 ghost use Rattle.std.specs.Prelude.{◌≡◌, ◌+◌, ◌-◌, ◌<◌, ◌≤◌, ◌∷◌, [], All, length, negsuc};
 ghost use Rattle.br_rv32im.specs.declared.instruction.ImmOp.TheVariants.{Addi};
 ghost use Rattle.br_rv32im.specs.declared.instruction.Ins.TheVariants.{Imm};
-ghost use Rattle.br_emit.specs.Code.{Does, AllFit, save_items, restore_items, move_items, exit_items, entry_items};
+ghost use Rattle.br_emit.specs.Code.{Does, AllFit, save_items, restore_items};
+ghost use Rattle.br_emit.specs.Code.{move_items, exit_items, entry_items};
 ghost use Rattle.br_emit.specs.Buffer.{appended};
 ghost use Rattle.br_emit.specs.Ready.{InReach};
 
@@ -86,7 +87,8 @@ pub fn exit(code: &mut Code)
     code.put(Ins::Jalr(ZERO, RETURN_ADDRESS, 0));
 }
 
-/// The entry of a function that is called: it sets the stack pointer to the end of the stack, and calls it.
+/// The entry of a function that is called: it sets the stack pointer
+/// to the end of the stack, and calls it.
 pub fn entry(code: &mut Code, near: bool, target: u32)
     requires room { length (entry_items near target) ≤ code.old.room }
     requires target { InReach target }

@@ -1,12 +1,14 @@
 // The code of functions.
 
-ghost use Rattle.std.specs.Prelude.{◌≡◌, ◌+◌, ◌-◌, ◌*◌, ◌<◌, ◌≤◌, ◌++◌, ◌∷◌, [], ℕ, IsTrue, All, length, map, max};
+ghost use Rattle.std.specs.Prelude.{◌≡◌, ◌+◌, ◌-◌, ◌*◌, ◌<◌, ◌≤◌, ◌++◌, ◌∷◌};
+ghost use Rattle.std.specs.Prelude.{[], ℕ, IsTrue, All, length, map, max};
 ghost use Rattle.std.specs.List.{list_all};
 ghost use Rattle.br_flatimp.specs.Parts.{throughout};
 ghost use Rattle.br_flatimp.specs.Sizes.{largest, statement_nest, nest};
 ghost use Rattle.br_rv32im.specs.declared.instruction.Ins.TheVariants.{Ecall};
 ghost use Rattle.br_words.specs.Layout.{stack_end};
-ghost use Rattle.br_emit.specs.Code.{AllFit, Does, all_items, constant_items, callable_items, direct_items};
+ghost use Rattle.br_emit.specs.Code.{AllFit, Does, all_items, constant_items};
+ghost use Rattle.br_emit.specs.Code.{callable_items, direct_items};
 ghost use Rattle.br_emit.specs.Sizes.{sized_all, framed_items, callable_words, direct_words};
 ghost use Rattle.br_emit.specs.Buffer.{appended, noted};
 ghost use Rattle.br_emit.specs.Registers.{forgets_of};
@@ -42,8 +44,10 @@ pub fn nest_all(body: &[Stmt]) -> u32
 
 #[cycle(nesting)]
 fn nest_two(first: &[Stmt], second: &[Stmt]) -> u32
-    requires { max (largest (map statement_nest first.now)) (largest (map statement_nest second.now)) ≤ 1048576 }
-    ensures { result ≡ max (largest (map statement_nest first.now)) (largest (map statement_nest second.now)) }
+    requires { max (largest (map statement_nest first.now))
+        (largest (map statement_nest second.now)) ≤ 1048576 }
+    ensures { result
+        ≡ max (largest (map statement_nest first.now)) (largest (map statement_nest second.now)) }
 {
     nest_all(first).max(nest_all(second))
 }
@@ -82,7 +86,8 @@ pub fn callable_words(
     requires room { length (sized_all near f.now.body (nest f.now)).parts ≤ lengths.old.room }
     requires few { callable_words near (forgets_of sets.now) n f.now ≤ 1048576 }
     ensures words { result ≡ callable_words near (forgets_of sets.now) n f.now }
-    ensures lengths { lengths.new ≡ noted lengths.old (sized_all near f.now.body (nest f.now)).parts }
+    ensures lengths { lengths.new
+        ≡ noted lengths.old (sized_all near f.now.body (nest f.now)).parts }
 {
     let nest = nest_all(f.body.as_slice());
     let count = framed(near, sets, n, f).as_slice().len() as u32;
@@ -98,7 +103,8 @@ pub fn direct_words(lengths: &mut Numbers, near: bool, f: &FlatFunc) -> u32
     requires room { length (sized_all near f.now.body (nest f.now)).parts ≤ lengths.old.room }
     requires few { direct_words near f.now ≤ 1048576 }
     ensures words { result ≡ direct_words near f.now }
-    ensures lengths { lengths.new ≡ noted lengths.old (sized_all near f.now.body (nest f.now)).parts }
+    ensures lengths { lengths.new
+        ≡ noted lengths.old (sized_all near f.now.body (nest f.now)).parts }
 {
     let nest = nest_all(f.body.as_slice());
     let body = measure_all(lengths, near, f.body.as_slice(), nest);
@@ -117,8 +123,10 @@ pub fn callable(
     requires nest { nest f.now ≤ 1048576 }
     requires targets { (g : ℕ) → InReach ((aimed targets.now).at g) }
     requires form { IsTrue (list_all (throughout is_encodable) f.now.body) }
-    requires ready { Ready (callable_items (aimed targets.now) (forgets_of sets.now) n f.now) (sized_all targets.now.near f.now.body (nest f.now)).parts code.old lengths.now }
-    ensures code { code.new ≡ appended code.old (callable_items (aimed targets.now) (forgets_of sets.now) n f.now) }
+    requires ready { Ready (callable_items (aimed targets.now) (forgets_of sets.now) n f.now)
+        (sized_all targets.now.near f.now.body (nest f.now)).parts code.old lengths.now }
+    ensures code { code.new
+        ≡ appended code.old (callable_items (aimed targets.now) (forgets_of sets.now) n f.now) }
     ensures fit { AllFit (callable_items (aimed targets.now) (forgets_of sets.now) n f.now) }
 {
     let nest = nest_all(f.body.as_slice());
@@ -139,8 +147,8 @@ pub fn callable(
     );
 }
 
-// The code of a function that is called, by the registers in its frame, the bytes of its buffers, and how
-// the stack pointer moves for the frame and for the buffers.
+// The code of a function that is called, by the registers in its frame, the bytes of its buffers,
+// and how the stack pointer moves for the frame and for the buffers.
 fn with_frame(
     code: &mut Code,
     targets: &Targets,
@@ -156,8 +164,10 @@ fn with_frame(
     requires count { length rs.now ≤ 30 }
     requires targets { (g : ℕ) → InReach ((aimed targets.now).at g) }
     requires form { IsTrue (list_all (throughout is_encodable) body.now) }
-    requires ready { Ready (framed_items (aimed targets.now) rs.now body.now buffers down room up) (sized_all targets.now.near body.now buffers).parts code.old lengths.now }
-    ensures code { code.new ≡ appended code.old (framed_items (aimed targets.now) rs.now body.now buffers down room up) }
+    requires ready { Ready (framed_items (aimed targets.now) rs.now body.now buffers down room up)
+        (sized_all targets.now.near body.now buffers).parts code.old lengths.now }
+    ensures code { code.new ≡ appended code.old
+        (framed_items (aimed targets.now) rs.now body.now buffers down room up) }
     ensures fit { AllFit (framed_items (aimed targets.now) rs.now body.now buffers down room up) }
 {
     move_stack(code, down);
@@ -175,7 +185,8 @@ pub fn direct(code: &mut Code, targets: &Targets, lengths: &[u32], f: &FlatFunc)
     requires nest { nest f.now ≤ 1048576 }
     requires targets { (g : ℕ) → InReach ((aimed targets.now).at g) }
     requires form { IsTrue (list_all (throughout is_encodable) f.now.body) }
-    requires ready { Ready (direct_items (aimed targets.now) f.now) (sized_all targets.now.near f.now.body (nest f.now)).parts code.old lengths.now }
+    requires ready { Ready (direct_items (aimed targets.now) f.now)
+        (sized_all targets.now.near f.now.body (nest f.now)).parts code.old lengths.now }
     ensures code { code.new ≡ appended code.old (direct_items (aimed targets.now) f.now) }
     ensures fit { AllFit (direct_items (aimed targets.now) f.now) }
 {
@@ -188,9 +199,13 @@ fn ended(code: &mut Code, targets: &Targets, lengths: &[u32], body: &[Stmt], buf
     requires few { buffers ≤ 1048576 }
     requires targets { (g : ℕ) → InReach ((aimed targets.now).at g) }
     requires form { IsTrue (list_all (throughout is_encodable) body.now) }
-    requires ready { Ready (constant_items 2 (stack_end - buffers) ++ (all_items (aimed targets.now) body.now buffers ++ Does Ecall ∷ [])) (sized_all targets.now.near body.now buffers).parts code.old lengths.now }
-    ensures code { code.new ≡ appended code.old (constant_items 2 (stack_end - buffers) ++ (all_items (aimed targets.now) body.now buffers ++ Does Ecall ∷ [])) }
-    ensures fit { AllFit (constant_items 2 (stack_end - buffers) ++ (all_items (aimed targets.now) body.now buffers ++ Does Ecall ∷ [])) }
+    requires ready { Ready (constant_items 2 (stack_end - buffers)
+        ++ (all_items (aimed targets.now) body.now buffers ++ Does Ecall ∷ []))
+        (sized_all targets.now.near body.now buffers).parts code.old lengths.now }
+    ensures code { code.new ≡ appended code.old (constant_items 2 (stack_end - buffers)
+        ++ (all_items (aimed targets.now) body.now buffers ++ Does Ecall ∷ [])) }
+    ensures fit { AllFit (constant_items 2 (stack_end - buffers)
+        ++ (all_items (aimed targets.now) body.now buffers ++ Does Ecall ∷ [])) }
 {
     constant(code, STACK_POINTER, STACK_END - buffers);
     write_all(code, targets, &mut Left::new(lengths), body, buffers);

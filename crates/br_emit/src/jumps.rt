@@ -1,8 +1,14 @@
 // The jump piece: jumps and branches over parts whose length is known.
 
-ghost use Rattle.std.specs.Prelude.{◌≡◌, ◌+◌, ◌*◌, ◌-◌, ◌%◌, ◌<◌, ◌≤◌, ◌^◌, nat_lt, if◌then◌else◌, ◌∷◌, [], length};
-ghost use Rattle.br_emit.specs.Code.{AllFit, Branching, Links, is_near, is_reached, distance_to, item_word, branch_item, jump_items, over_items, opposite_branch, otherwise, related, branching, skip_items, back_items, call_items};
-ghost use Rattle.br_emit.specs.Sizes.{call_words, jump_words, over_words, skip_words, back_words, if_head_items, if_middle_items, loop_head_items, if_head_words, if_middle_words, loop_head_words};
+ghost use Rattle.std.specs.Prelude.{◌≡◌, ◌+◌, ◌*◌, ◌-◌, ◌%◌, ◌<◌, ◌≤◌, ◌^◌};
+ghost use Rattle.std.specs.Prelude.{nat_lt, if◌then◌else◌, ◌∷◌, [], length};
+ghost use Rattle.br_emit.specs.Code.{AllFit, Branching, Links, is_near, is_reached};
+ghost use Rattle.br_emit.specs.Code.{distance_to, item_word, branch_item, jump_items};
+ghost use Rattle.br_emit.specs.Code.{over_items, opposite_branch, otherwise, related};
+ghost use Rattle.br_emit.specs.Code.{branching, skip_items, back_items, call_items};
+ghost use Rattle.br_emit.specs.Sizes.{call_words, jump_words, over_words, skip_words, back_words};
+ghost use Rattle.br_emit.specs.Sizes.{if_head_items, if_middle_items, loop_head_items};
+ghost use Rattle.br_emit.specs.Sizes.{if_head_words, if_middle_words, loop_head_words};
 ghost use Rattle.br_emit.specs.Buffer.{appended};
 ghost use Rattle.br_emit.specs.Ready.{HasRegisters, InReach};
 
@@ -13,8 +19,8 @@ use br_rv32im::{BranchOp, Ins, UpperOp, encode};
 use br_words::Layout;
 use std::marker::Model;
 
-// The register of return addresses (RISC-V calling conventions, integer register convention), which a
-// far jump goes through.
+// The register of return addresses (RISC-V calling conventions, integer register
+// convention), which a far jump goes through.
 const RETURN_ADDRESS: u32 = 1;
 
 // The register that is 0, and that a jump links to which nobody returns from.
@@ -114,7 +120,8 @@ impl Branch {
     }
 }
 
-// The distance modulo 2^32 of a jump that stands after a branch, back by n words counted from the branch.
+// The distance modulo 2^32 of a jump that stands after a branch,
+// back by n words counted from the branch.
 fn back_distance(n: u32) -> u32
     requires { n ≤ 4194304 }
     ensures { result ≡ 2 ^ 32 - 4 * (n + 1) }
@@ -163,7 +170,8 @@ pub fn jump_words(w: u32) -> u32
     if is_near(w) { 1 } else { 2 }
 }
 
-/// Jumps by so many bytes modulo 2^32 from its first word, and leaves the address after it in `link`.
+/// Jumps by so many bytes modulo 2^32 from its first word, and
+/// leaves the address after it in `link`.
 pub fn jump(code: &mut Code, link: u32, w: u32)
     requires room { length (jump_items link w) ≤ code.old.room }
     requires link { link < 32 }
@@ -364,8 +372,8 @@ pub fn call_words(near: bool) -> u32
     if near { 1 } else { 2 }
 }
 
-/// Calls the code at an address, and leaves the address after the call in x1: by one jump where the whole
-/// code is near.
+/// Calls the code at an address, and leaves the address after the call in x1: by
+/// one jump where the whole code is near.
 pub fn call(code: &mut Code, near: bool, target: u32)
     requires room { length (call_items near target) ≤ code.old.room }
     requires target { InReach target }

@@ -15,8 +15,8 @@ use br_machine::steps_make_machines;
 use br_rv32im::instructions_and_words_match;
 
 /// An entry that is its function alone shows each call of it: unless a run with these answers is
-/// undefined, the machine makes the run's events, traps nowhere, keeps within the stated need, and ends
-/// as the run does, with its words and its memory.
+/// undefined, the machine makes the run's events, traps nowhere, keeps within the stated need, and
+/// ends as the run does, with its words and its memory.
 pub fn direct_entries_show_calls()
     ensures { (l : Laid) (n : ℕ) (f : FlatFunc) (place need all : ℕ) →
         slice_get l.fs n ≡ Some f → Placed l.code place (direct_items l.targets f) →
@@ -41,11 +41,12 @@ pub fn called_entries_show_calls()
     steps_make_machines();
 }
 
-/// Where the code of a program is that of its functions one after another, and its words fit their fields,
-/// the entry of each function that needs no more than the stack has shows each call of it, within the
-/// program's flat bulk in steps for each unit of fuel and one more.
+/// Where the code of a program is that of its functions one after another, and its words fit their
+/// fields, the entry of each function that needs no more than the stack has shows each call of it,
+/// within the program's flat bulk in steps for each unit of fuel and one more.
 pub fn code_shows_its_program()
-    ensures { (fs : List FlatFunc) (targets : Targets) (forgets : Forgets) (need : ℕ → ℕ) (code : List ℕ) →
+    ensures { (fs : List FlatFunc) (targets : Targets) (forgets : Forgets) (need : ℕ → ℕ)
+        (code : List ℕ) →
         IsCodeOf fs targets forgets need code → (n : ℕ) (f : FlatFunc) (place : ℕ) →
         slice_get fs n ≡ Some f → slice_get (places targets forgets fs 0 0 fs) n ≡ Some place →
         need n ≤ most_stack → ShowsFunction fs targets forgets need code n f place }

@@ -34,7 +34,8 @@ fn keeps_all(body: &[Stmt]) -> bool
 
 #[cycle(linking)]
 fn keeps_two(first: &[Stmt], second: &[Stmt]) -> bool
-    ensures { result ≡ (list_all (throughout keeps_link) first.now && list_all (throughout keeps_link) second.now) }
+    ensures { result ≡ (list_all (throughout keeps_link) first.now
+        && list_all (throughout keeps_link) second.now) }
 {
     let one = keeps_all(first);
     let other = keeps_all(second);

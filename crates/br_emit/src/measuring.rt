@@ -3,7 +3,8 @@
 ghost use Rattle.std.specs.Prelude.{◌≡◌, ◌++◌, ◌∷◌, ◌+◌, ◌≤◌, length};
 ghost use Rattle.br_flatimp.specs.Sizes.{words_for};
 ghost use Rattle.br_emit.specs.Code.{constant_items, copy_items, op_items, place_items};
-ghost use Rattle.br_emit.specs.Sizes.{Sized, both_sized, over_words, sized, sized_all, sized_if, sized_loop};
+ghost use Rattle.br_emit.specs.Sizes.{Sized, both_sized, over_words, sized};
+ghost use Rattle.br_emit.specs.Sizes.{sized_all, sized_if, sized_loop};
 ghost use Rattle.br_emit.specs.Buffer.{noted};
 
 use crate::jumps::{
@@ -14,8 +15,8 @@ use crate::straight::is_short;
 use br_flatimp::{Operand, Stmt};
 use br_words::BinOp;
 
-/// The words of the code of statements for so many free bytes, where the whole code is near or not, and the
-/// lengths of the parts in them.
+/// The words of the code of statements for so many free bytes, where the whole code is near or not,
+/// and the lengths of the parts in them.
 #[cycle(measuring)]
 pub fn measure_all(lengths: &mut Numbers, near: bool, body: &[Stmt], free: u32) -> u32
     requires room { length (sized_all near body.now free).parts ≤ lengths.old.room }
@@ -82,10 +83,14 @@ fn measure_buffer(lengths: &mut Numbers, near: bool, x: u32, body: &[Stmt], free
 
 #[cycle(measuring)]
 fn measure_if(lengths: &mut Numbers, near: bool, first: &[Stmt], second: &[Stmt], free: u32) -> u32
-    requires room { length (sized_if (sized_all near first.now free) (sized_all near second.now free)).parts ≤ lengths.old.room }
-    requires few { (sized_if (sized_all near first.now free) (sized_all near second.now free)).words ≤ 1048576 }
-    ensures words { result ≡ (sized_if (sized_all near first.now free) (sized_all near second.now free)).words }
-    ensures noted { lengths.new ≡ noted lengths.old (sized_if (sized_all near first.now free) (sized_all near second.now free)).parts }
+    requires room { length (sized_if (sized_all near first.now free)
+        (sized_all near second.now free)).parts ≤ lengths.old.room }
+    requires few { (sized_if (sized_all near first.now free) (sized_all near second.now free)).words
+        ≤ 1048576 }
+    ensures words { result
+        ≡ (sized_if (sized_all near first.now free) (sized_all near second.now free)).words }
+    ensures noted { lengths.new ≡ noted lengths.old
+        (sized_if (sized_all near first.now free) (sized_all near second.now free)).parts }
 {
     let (a, b) = measure_two(lengths, near, first, second, free);
     if_head_words(a, b) + a + if_middle_words(a, b) + b
@@ -93,10 +98,14 @@ fn measure_if(lengths: &mut Numbers, near: bool, first: &[Stmt], second: &[Stmt]
 
 #[cycle(measuring)]
 fn measure_loop(lengths: &mut Numbers, near: bool, last: &[Stmt], first: &[Stmt], free: u32) -> u32
-    requires room { length (sized_loop (sized_all near first.now free) (sized_all near last.now free)).parts ≤ lengths.old.room }
-    requires few { (sized_loop (sized_all near first.now free) (sized_all near last.now free)).words ≤ 1048576 }
-    ensures words { result ≡ (sized_loop (sized_all near first.now free) (sized_all near last.now free)).words }
-    ensures noted { lengths.new ≡ noted lengths.old (sized_loop (sized_all near first.now free) (sized_all near last.now free)).parts }
+    requires room { length (sized_loop (sized_all near first.now free)
+        (sized_all near last.now free)).parts ≤ lengths.old.room }
+    requires few { (sized_loop (sized_all near first.now free) (sized_all near last.now free)).words
+        ≤ 1048576 }
+    ensures words { result
+        ≡ (sized_loop (sized_all near first.now free) (sized_all near last.now free)).words }
+    ensures noted { lengths.new ≡ noted lengths.old
+        (sized_loop (sized_all near first.now free) (sized_all near last.now free)).parts }
 {
     let (b, a) = measure_two(lengths, near, last, first, free);
     loop_head_words(b) + b + a + back_words(b + a)
@@ -105,12 +114,15 @@ fn measure_loop(lengths: &mut Numbers, near: bool, last: &[Stmt], first: &[Stmt]
 // Two parts: their own lengths come before those in them.
 #[cycle(measuring)]
 fn measure_two(lengths: &mut Numbers, near: bool, a: &[Stmt], b: &[Stmt], free: u32) -> (u32, u32)
-    requires room { 2 + length (sized_all near a.now free).parts + length (sized_all near b.now free).parts ≤ lengths.old.room }
+    requires room { 2 + length (sized_all near a.now free).parts
+        + length (sized_all near b.now free).parts ≤ lengths.old.room }
     requires first { (sized_all near a.now free).words ≤ 1048576 }
     requires second { (sized_all near b.now free).words ≤ 1048576 }
     ensures first { result.0 ≡ (sized_all near a.now free).words }
     ensures second { result.1 ≡ (sized_all near b.now free).words }
-    ensures noted { lengths.new ≡ noted lengths.old ((sized_all near a.now free).words ∷ (sized_all near b.now free).words ∷ ((sized_all near a.now free).parts ++ (sized_all near b.now free).parts)) }
+    ensures noted { lengths.new
+        ≡ noted lengths.old ((sized_all near a.now free).words ∷ (sized_all near b.now free).words
+        ∷ ((sized_all near a.now free).parts ++ (sized_all near b.now free).parts)) }
 {
     let at = lengths.reserve();
     let first = measure_all(lengths, near, a, free);

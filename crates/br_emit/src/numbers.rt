@@ -1,6 +1,7 @@
 // Numbers in room that was taken before.
 
-ghost use Rattle.std.specs.Prelude.{◌≡◌, ◌++◌, ◌∷◌, [], ◌+◌, ◌-◌, ◌<◌, ◌≤◌, length, drop, get_or, slice_set, IfOk};
+ghost use Rattle.std.specs.Prelude.{◌≡◌, ◌++◌, ◌∷◌, [], ◌+◌, ◌-◌, ◌<◌, ◌≤◌};
+ghost use Rattle.std.specs.Prelude.{length, drop, get_or, slice_set, IfOk};
 ghost use Rattle.br_emit.specs.Buffer.{noted};
 
 use br_base::NoMemory;
@@ -64,7 +65,11 @@ impl Numbers {
     /// The two numbers at a place.
     pub fn set(&mut self, at: usize, a: u32, b: u32)
         requires { at + 1 < length self.old.numbers }
-        ensures { self.new ≡ record { numbers = slice_set (slice_set self.old.numbers at a) (at + 1) b; room = self.old.room } }
+        ensures { self.new ≡ record {
+          numbers =
+              slice_set (slice_set self.old.numbers at a) (at + 1) b;
+          room = self.old.room;
+        } }
     {
         self.numbers[at] = a;
         self.numbers[at + 1] = b;
@@ -72,7 +77,8 @@ impl Numbers {
 
     /// No numbers, with the room that they had.
     pub fn clear(&mut self)
-        ensures { self.new ≡ record { numbers = []; room = self.old.room + length self.old.numbers } }
+        ensures { self.new
+            ≡ record { numbers = []; room = self.old.room + length self.old.numbers } }
     {
         self.numbers.clear();
     }

@@ -22,10 +22,13 @@ use br_flatimp::FlatFunc;
 // The lengths of the parts in a function, in place of those before.
 fn measure_function(lengths: &mut Numbers, targets: &Targets, f: &FlatFunc)
     requires nest { nest f.now ≤ 1048576 }
-    requires parts { length (sized_all targets.now.near f.now.body (nest f.now)).parts ≤ lengths.old.room + length lengths.old.numbers }
+    requires parts { length (sized_all targets.now.near f.now.body (nest f.now)).parts
+        ≤ lengths.old.room + length lengths.old.numbers }
     requires few { (sized_all targets.now.near f.now.body (nest f.now)).words ≤ 1048576 }
-    ensures numbers { lengths.new.numbers ≡ (sized_all targets.now.near f.now.body (nest f.now)).parts }
-    ensures kept { lengths.new.room + length lengths.new.numbers ≡ lengths.old.room + length lengths.old.numbers }
+    ensures numbers { lengths.new.numbers
+        ≡ (sized_all targets.now.near f.now.body (nest f.now)).parts }
+    ensures kept { lengths.new.room + length lengths.new.numbers
+        ≡ lengths.old.room + length lengths.old.numbers }
 {
     lengths.clear();
     let buffers = nest_all(f.body.as_slice());
@@ -46,9 +49,13 @@ fn write_called(
     requires target { InReach target }
     requires nest { nest f.now ≤ 1048576 }
     requires form { IsTrue (list_all (throughout is_encodable) f.now.body) }
-    requires ready { Ready (callable_items (aimed targets.now) (forgets_of sets.now) n f.now ++ entry_items targets.now.near target) (sized_all targets.now.near f.now.body (nest f.now)).parts code.old lengths.now }
-    ensures code { code.new ≡ appended code.old (callable_items (aimed targets.now) (forgets_of sets.now) n f.now ++ entry_items targets.now.near target) }
-    ensures fit { AllFit (callable_items (aimed targets.now) (forgets_of sets.now) n f.now ++ entry_items targets.now.near target) }
+    requires ready { Ready (callable_items (aimed targets.now) (forgets_of sets.now) n f.now
+        ++ entry_items targets.now.near target)
+        (sized_all targets.now.near f.now.body (nest f.now)).parts code.old lengths.now }
+    ensures code { code.new ≡ appended code.old (callable_items (aimed targets.now)
+        (forgets_of sets.now) n f.now ++ entry_items targets.now.near target) }
+    ensures fit { AllFit (callable_items (aimed targets.now) (forgets_of sets.now) n f.now
+        ++ entry_items targets.now.near target) }
 {
     callable(code, targets, lengths, sets, n, f);
     entry(code, targets.near(), target);
@@ -67,12 +74,18 @@ fn write_function(
 )
     requires targets { (g : ℕ) → InReach ((aimed targets.now).at g) }
     requires target { InReach target }
-    requires writable { Writable targets.now.near (lengths.old.room + length lengths.old.numbers) f.now }
-    requires room { length (one_items (aimed targets.now) (forgets_of sets.now) called n target f.now) ≤ code.old.room }
-    requires few { length (one_items (aimed targets.now) (forgets_of sets.now) called n target f.now) ≤ 1048576 }
-    ensures code { code.new ≡ appended code.old (one_items (aimed targets.now) (forgets_of sets.now) called n target f.now) }
-    ensures fit { AllFit (one_items (aimed targets.now) (forgets_of sets.now) called n target f.now) }
-    ensures kept { lengths.new.room + length lengths.new.numbers ≡ lengths.old.room + length lengths.old.numbers }
+    requires writable { Writable targets.now.near
+        (lengths.old.room + length lengths.old.numbers) f.now }
+    requires room { length (one_items (aimed targets.now) (forgets_of sets.now) called n target
+        f.now) ≤ code.old.room }
+    requires few { length
+        (one_items (aimed targets.now) (forgets_of sets.now) called n target f.now) ≤ 1048576 }
+    ensures code { code.new ≡ appended code.old
+        (one_items (aimed targets.now) (forgets_of sets.now) called n target f.now) }
+    ensures fit { AllFit
+        (one_items (aimed targets.now) (forgets_of sets.now) called n target f.now) }
+    ensures kept { lengths.new.room + length lengths.new.numbers
+        ≡ lengths.old.room + length lengths.old.numbers }
 {
     measure_function(lengths, targets, f);
     if called {
@@ -92,8 +105,8 @@ pub fn is_flagged(flags: &[bool], n: usize) -> bool
     }
 }
 
-/// The code of functions, one after another, given where each stands, what calls may change, and which of
-/// them are called.
+/// The code of functions, one after another, given where each stands, what calls may
+/// change, and which of them are called.
 pub fn write_functions(
     code: &mut Code,
     targets: &Targets,
@@ -103,12 +116,18 @@ pub fn write_functions(
     funcs: &[FlatFunc],
 )
     requires targets { (g : ℕ) → InReach ((aimed targets.now).at g) }
-    requires writable { AllByRecursion (Writable targets.now.near (lengths.old.room + length lengths.old.numbers)) funcs.now }
-    requires room { length (rest_items (aimed targets.now) (forgets_of sets.now) (flagged called.now) 0 funcs.now) ≤ code.old.room }
-    requires few { length (rest_items (aimed targets.now) (forgets_of sets.now) (flagged called.now) 0 funcs.now) ≤ 1048576 }
-    ensures code { code.new ≡ appended code.old (rest_items (aimed targets.now) (forgets_of sets.now) (flagged called.now) 0 funcs.now) }
-    ensures fit { AllFit (rest_items (aimed targets.now) (forgets_of sets.now) (flagged called.now) 0 funcs.now) }
-    ensures kept { lengths.new.room + length lengths.new.numbers ≡ lengths.old.room + length lengths.old.numbers }
+    requires writable { AllByRecursion
+        (Writable targets.now.near (lengths.old.room + length lengths.old.numbers)) funcs.now }
+    requires room { length (rest_items (aimed targets.now) (forgets_of sets.now)
+        (flagged called.now) 0 funcs.now) ≤ code.old.room }
+    requires few { length (rest_items (aimed targets.now) (forgets_of sets.now) (flagged called.now)
+        0 funcs.now) ≤ 1048576 }
+    ensures code { code.new ≡ appended code.old
+        (rest_items (aimed targets.now) (forgets_of sets.now) (flagged called.now) 0 funcs.now) }
+    ensures fit { AllFit
+        (rest_items (aimed targets.now) (forgets_of sets.now) (flagged called.now) 0 funcs.now) }
+    ensures kept { lengths.new.room + length lengths.new.numbers
+        ≡ lengths.old.room + length lengths.old.numbers }
 {
     let mut n = 0usize;
     for f in funcs {

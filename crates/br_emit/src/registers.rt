@@ -1,6 +1,7 @@
 // The registers that a function has to leave as they were.
 
-ghost use Rattle.std.specs.Prelude.{◌≡◌, ◌++◌, ◌∷◌, [], ℕ, ◌<◌, ◌≤◌, ◌||◌, filter, if◌then◌else◌, length};
+ghost use Rattle.std.specs.Prelude.{◌≡◌, ◌++◌, ◌∷◌, [], ℕ, ◌<◌, ◌≤◌};
+ghost use Rattle.std.specs.Prelude.{◌||◌, filter, if◌then◌else◌, length};
 ghost use Rattle.br_flatimp.specs.Sizes.{nest};
 ghost use Rattle.br_emit.specs.Code.{framed, is_saved, registers};
 ghost use Rattle.br_emit.specs.Registers.{forgets_of, has};
@@ -59,9 +60,9 @@ impl Registers {
     }
 }
 
-/// The registers in the frame of a function: x1 where its code may change it, and those from 3 to 31 that
-/// the function or a callee changes, that are not its results, and that its callers may miss. What calls
-/// may change is given, and whether the whole code is near.
+/// The registers in the frame of a function: x1 where its code may change it, and those from 3 to
+/// 31 that the function or a callee changes, that are not its results, and that its callers may
+/// miss. What calls may change is given, and whether the whole code is near.
 pub fn framed(near: bool, sets: &[u32], n: usize, f: &FlatFunc) -> Registers
     requires { nest f.now ≤ 1048576 }
     ensures { result ≡ framed near (forgets_of sets.now) n f.now }

@@ -45,8 +45,10 @@ fn most_all(body: &[Stmt]) -> u32
 // The most words of the code of two parts and the jumps around them.
 #[cycle(bounding)]
 fn most_both(first: &[Stmt], second: &[Stmt]) -> u32
-    requires { 5 + sum (map statement_bulk first.now) + sum (map statement_bulk second.now) ≤ 1048576 }
-    ensures { result ≡ 5 + sum (map statement_bulk first.now) + sum (map statement_bulk second.now) }
+    requires { 5 + sum (map statement_bulk first.now) + sum (map statement_bulk second.now)
+        ≤ 1048576 }
+    ensures { result
+        ≡ 5 + sum (map statement_bulk first.now) + sum (map statement_bulk second.now) }
 {
     5 + most_all(first) + most_all(second)
 }

@@ -3,7 +3,9 @@
 ghost use Rattle.std.specs.Prelude.{◌≡◌, ◌<◌, ◌≤◌, IsTrue, length, negsuc, ◌≤ℤ◌};
 ghost use Rattle.br_flatimp.specs.Parts.{operand_names};
 ghost use Rattle.br_flatimp.specs.WellFormed.{are_registers, fits_operation, operand_fits};
-ghost use Rattle.br_emit.specs.Code.{AllFit, low_part, high_part, is_short, constant_items, copy_items, opposite, amount, by_name_items, by_constant_items, op_items, load_op, store_op, place_items};
+ghost use Rattle.br_emit.specs.Code.{AllFit, low_part, high_part, is_short, constant_items};
+ghost use Rattle.br_emit.specs.Code.{copy_items, opposite, amount, by_name_items};
+ghost use Rattle.br_emit.specs.Code.{by_constant_items, op_items, load_op, store_op, place_items};
 ghost use Rattle.br_emit.specs.Buffer.{appended};
 
 use crate::code::Code;

@@ -5,8 +5,8 @@ ghost use Rattle.br_emit.specs.Ready.{aimed};
 
 use std::marker::Model;
 
-/// The addresses of functions, in the order of the program, and whether the whole code is in the reach of
-/// JAL from each of its words.
+/// The addresses of functions, in the order of the program, and whether the whole code is in the
+/// reach of JAL from each of its words.
 #[derive(Drop)]
 pub struct Targets<'a> {
     near: bool,

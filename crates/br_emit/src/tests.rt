@@ -1,5 +1,5 @@
-// The words of pieces of code. They are those that an assembler for RV32IM makes of the instructions that
-// stand beside them.
+// The words of pieces of code. They are those that an assembler for RV32IM makes of
+// the instructions that stand beside them.
 
 use crate::CodeBuffer;
 use crate::code::Code;
@@ -346,7 +346,8 @@ fn a_function_saves_what_its_caller_needs(rt: HostRuntime) -> Result<(), Fail> {
     Ok(())
 }
 
-// The last function needs x5 after a call of the one between, which has no such name: so the first saves it.
+// The last function needs x5 after a call of the one between, which
+// has no such name: so the first saves it.
 #[test]
 fn a_function_saves_what_callers_of_its_caller_need(rt: HostRuntime) -> Result<(), Fail> {
     let alloc = rt.alloc();

@@ -3,7 +3,8 @@
 ghost use Rattle.std.specs.Prelude.{◌≡◌, ◌++◌, ◌<◌, ℕ, IsTrue, length, drop};
 ghost use Rattle.std.specs.List.{list_all};
 ghost use Rattle.br_flatimp.specs.Parts.{throughout};
-ghost use Rattle.br_emit.specs.Code.{AllFit, branching, items_of, all_items, if_items, loop_items, place_items};
+ghost use Rattle.br_emit.specs.Code.{AllFit, branching, items_of, all_items};
+ghost use Rattle.br_emit.specs.Code.{if_items, loop_items, place_items};
 ghost use Rattle.br_emit.specs.Sizes.{sized, sized_all, sized_if, sized_loop};
 ghost use Rattle.br_emit.specs.Buffer.{appended};
 ghost use Rattle.br_emit.specs.Ready.{Ready, HasRegisters, InReach, is_encodable, aimed};
@@ -17,16 +18,18 @@ use crate::targets::Targets;
 use br_flatimp::{Cond, Stmt};
 use br_rv32im::{Ins, LoadOp, StoreOp};
 
-/// The code of statements for so many bytes that are free above the stack pointer. The first lengths that
-/// are left are those of the parts in them, and are taken.
+/// The code of statements for so many bytes that are free above the stack pointer. The first
+/// lengths that are left are those of the parts in them, and are taken.
 #[cycle(writing)]
 pub fn write_all(code: &mut Code, targets: &Targets, lengths: &mut Left, body: &[Stmt], free: u32)
     requires targets { (g : ℕ) → InReach ((aimed targets.now).at g) }
     requires form { IsTrue (list_all (throughout is_encodable) body.now) }
-    requires ready { Ready (all_items (aimed targets.now) body.now free) (sized_all targets.now.near body.now free).parts code.old lengths.old }
+    requires ready { Ready (all_items (aimed targets.now) body.now free)
+        (sized_all targets.now.near body.now free).parts code.old lengths.old }
     ensures code { code.new ≡ appended code.old (all_items (aimed targets.now) body.now free) }
     ensures fit { AllFit (all_items (aimed targets.now) body.now free) }
-    ensures lengths { lengths.new ≡ drop (length (sized_all targets.now.near body.now free).parts) lengths.old }
+    ensures lengths { lengths.new
+        ≡ drop (length (sized_all targets.now.near body.now free).parts) lengths.old }
 {
     for s in body {
         write(code, targets, lengths, s, free);
@@ -37,10 +40,12 @@ pub fn write_all(code: &mut Code, targets: &Targets, lengths: &mut Left, body: &
 fn write(code: &mut Code, targets: &Targets, lengths: &mut Left, s: &Stmt, free: u32)
     requires targets { (g : ℕ) → InReach ((aimed targets.now).at g) }
     requires form { IsTrue (throughout is_encodable s.now) }
-    requires ready { Ready (items_of (aimed targets.now) s.now free) (sized targets.now.near s.now free).parts code.old lengths.old }
+    requires ready { Ready (items_of (aimed targets.now) s.now free)
+        (sized targets.now.near s.now free).parts code.old lengths.old }
     ensures code { code.new ≡ appended code.old (items_of (aimed targets.now) s.now free) }
     ensures fit { AllFit (items_of (aimed targets.now) s.now free) }
-    ensures lengths { lengths.new ≡ drop (length (sized targets.now.near s.now free).parts) lengths.old }
+    ensures lengths { lengths.new
+        ≡ drop (length (sized targets.now.near s.now free).parts) lengths.old }
 {
     match s {
         Stmt::Lit(x, n) => constant(code, *x, *n),
@@ -100,10 +105,13 @@ fn write_buffer(
     requires register { x < 32 }
     requires targets { (g : ℕ) → InReach ((aimed targets.now).at g) }
     requires form { IsTrue (list_all (throughout is_encodable) body.now) }
-    requires ready { Ready (place_items x free ++ all_items (aimed targets.now) body.now free) (sized_all targets.now.near body.now free).parts code.old lengths.old }
-    ensures code { code.new ≡ appended code.old (place_items x free ++ all_items (aimed targets.now) body.now free) }
+    requires ready { Ready (place_items x free ++ all_items (aimed targets.now) body.now free)
+        (sized_all targets.now.near body.now free).parts code.old lengths.old }
+    ensures code { code.new
+        ≡ appended code.old (place_items x free ++ all_items (aimed targets.now) body.now free) }
     ensures fit { AllFit (place_items x free ++ all_items (aimed targets.now) body.now free) }
-    ensures lengths { lengths.new ≡ drop (length (sized_all targets.now.near body.now free).parts) lengths.old }
+    ensures lengths { lengths.new
+        ≡ drop (length (sized_all targets.now.near body.now free).parts) lengths.old }
 {
     place(code, x, free);
     write_all(code, targets, lengths, body, free);
@@ -123,10 +131,15 @@ fn write_if(
     requires registers { HasRegisters (branching test) }
     requires first { IsTrue (list_all (throughout is_encodable) first.now) }
     requires second { IsTrue (list_all (throughout is_encodable) second.now) }
-    requires ready { Ready (if_items (branching test) (all_items (aimed targets.now) first.now free) (all_items (aimed targets.now) second.now free)) (sized_if (sized_all targets.now.near first.now free) (sized_all targets.now.near second.now free)).parts code.old lengths.old }
-    ensures code { code.new ≡ appended code.old (if_items (branching test) (all_items (aimed targets.now) first.now free) (all_items (aimed targets.now) second.now free)) }
-    ensures fit { AllFit (if_items (branching test) (all_items (aimed targets.now) first.now free) (all_items (aimed targets.now) second.now free)) }
-    ensures lengths { lengths.new ≡ drop (length (sized_if (sized_all targets.now.near first.now free) (sized_all targets.now.near second.now free)).parts) lengths.old }
+    requires ready { Ready (if_items (branching test) (all_items (aimed targets.now) first.now free)
+        (all_items (aimed targets.now) second.now free)) (sized_if (sized_all targets.now.near
+        first.now free) (sized_all targets.now.near second.now free)).parts code.old lengths.old }
+    ensures code { code.new ≡ appended code.old (if_items (branching test) (all_items
+        (aimed targets.now) first.now free) (all_items (aimed targets.now) second.now free)) }
+    ensures fit { AllFit (if_items (branching test) (all_items (aimed targets.now) first.now free)
+        (all_items (aimed targets.now) second.now free)) }
+    ensures lengths { lengths.new ≡ drop (length (sized_if (sized_all targets.now.near first.now
+        free) (sized_all targets.now.near second.now free)).parts) lengths.old }
 {
     let a = lengths.next();
     let b = lengths.next();
@@ -150,10 +163,16 @@ fn write_loop(
     requires registers { HasRegisters (branching test) }
     requires first { IsTrue (list_all (throughout is_encodable) first.now) }
     requires last { IsTrue (list_all (throughout is_encodable) last.now) }
-    requires ready { Ready (loop_items (all_items (aimed targets.now) first.now free) (branching test) (all_items (aimed targets.now) last.now free)) (sized_loop (sized_all targets.now.near first.now free) (sized_all targets.now.near last.now free)).parts code.old lengths.old }
-    ensures code { code.new ≡ appended code.old (loop_items (all_items (aimed targets.now) first.now free) (branching test) (all_items (aimed targets.now) last.now free)) }
-    ensures fit { AllFit (loop_items (all_items (aimed targets.now) first.now free) (branching test) (all_items (aimed targets.now) last.now free)) }
-    ensures lengths { lengths.new ≡ drop (length (sized_loop (sized_all targets.now.near first.now free) (sized_all targets.now.near last.now free)).parts) lengths.old }
+    requires ready { Ready (loop_items (all_items (aimed targets.now) first.now free)
+        (branching test) (all_items (aimed targets.now) last.now free))
+        (sized_loop (sized_all targets.now.near first.now free)
+        (sized_all targets.now.near last.now free)).parts code.old lengths.old }
+    ensures code { code.new ≡ appended code.old (loop_items (all_items (aimed targets.now) first.now
+        free) (branching test) (all_items (aimed targets.now) last.now free)) }
+    ensures fit { AllFit (loop_items (all_items (aimed targets.now) first.now free) (branching test)
+        (all_items (aimed targets.now) last.now free)) }
+    ensures lengths { lengths.new ≡ drop (length (sized_loop (sized_all targets.now.near first.now
+        free) (sized_all targets.now.near last.now free)).parts) lengths.old }
 {
     let b = lengths.next();
     let a = lengths.next();

@@ -21,7 +21,8 @@ enough : (c d : Called) → Shows c d → c.outcome ≢ outcome.NoChoice → d.o
 enough c d (inl undefined) has none = cc (undefined, none)
 enough c d (inr h) has none = has (h.0 ∙ none)
 
-call_of : (q p : Meaning) (g : ℕ) (args : List ℕ) (m : Memory) (answers : List ℕ) → q.signatures ≡ p.signatures → IsCall p g args m answers → IsCall q g args m answers
+call_of : (q p : Meaning) (g : ℕ) (args : List ℕ) (m : Memory) (answers : List ℕ) → q.signatures ≡ p.signatures
+    → IsCall p g args m answers → IsCall q g args m answers
 call_of q p g args m answers same c = record {
   signature = c.signature;
   there = ap (λ s. slice_get s g) same ∙ c.there;
@@ -43,6 +44,11 @@ refines-trans r q p a b = record {
   same = a.same ∙ b.same;
   calls = λ g args m answers choices fuel is good has.
       let first = a.calls g args m answers choices fuel (call_of q p g args m answers b.same is) good has in
-      let second = b.calls g args m answers first.0 fuel is first.1 (enough (r.call g args m answers choices fuel) (q.call g args m answers first.0 fuel) first.2 has) in
-      (second.0, second.1, shows_trans (r.call g args m answers choices fuel) (q.call g args m answers first.0 fuel) (p.call g args m answers second.0 fuel) first.2 second.2);
+      let second = b.calls g args m answers first.0 fuel is first.1
+      (enough (r.call g args m answers choices fuel) (q.call g args m answers first.0 fuel) first.2 has) in (
+        second.0,
+        second.1,
+        shows_trans (r.call g args m answers choices fuel) (q.call g args m answers first.0 fuel)
+            (p.call g args m answers second.0 fuel) first.2 second.2,
+      );
 }

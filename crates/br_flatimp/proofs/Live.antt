@@ -1,12 +1,14 @@
 -- Lemmas on liveness: what it hands on from the end of a list, and the least set at a loop's test.
-use Rattle.std.proofs.Common.{◌≡◌, ℕ, Bool, true, false, not, ◌&&◌, ◌||◌, List, [], ◌∷◌, map, ◌⊎◌, inl, inr, refl, sym, subst, IsTrue}
+use Rattle.std.proofs.Common.{◌≡◌, ℕ, Bool, true, false, not, ◌&&◌, ◌||◌, List, []}
+use Rattle.std.proofs.Common.{◌∷◌, map, ◌⊎◌, inl, inr, refl, sym, subst, IsTrue}
 use Rattle.br_flatimp.specs.declared.program.Cond.{Cond}
 use Rattle.br_flatimp.specs.declared.program.Stmt.{Stmt, map-Stmt}
 use Rattle.br_flatimp.specs.declared.program.Stmt.TheOpen.{Stmt-F}
 use Rattle.br_flatimp.specs.declared.program.Stmt.TheFolds.{fold-roll-Stmt, ind-Stmt}
 use Rattle.br_flatimp.specs.Parts.{test_names, operand_names}
 use Rattle.br_flatimp.specs.Values.{Names}
-use Rattle.br_flatimp.specs.Liveness.{nothing, is_in, union, without, Within, Live, entry, at_test, before_step, live_step, live, before}
+use Rattle.br_flatimp.specs.Liveness.{nothing, is_in, union, without, Within, Live, entry}
+use Rattle.br_flatimp.specs.Liveness.{at_test, before_step, live_step, live, before}
 
 pub or_left : (a b : Bool) → IsTrue a → IsTrue (a || b)
 or_left true b h = refl
@@ -67,14 +69,19 @@ pointwise-each [] = pointwise-itself
 pointwise-each (e ∷ cs) = pointwise-after (live e.0).before (entry (lives cs)) e.1 (pointwise-each cs)
 
 pointwise-read : (xs ys : List ℕ) → IsPointwise (λ a. union (without a xs) (is_in ys))
-pointwise-read xs ys = pointwise-union (λ a. without a xs) (λ a. is_in ys) (pointwise-without (λ a. a) xs pointwise-itself) (pointwise-constant (is_in ys))
+pointwise-read xs ys = pointwise-union (λ a. without a xs) (λ a. is_in ys)
+    (pointwise-without (λ a. a) xs pointwise-itself) (pointwise-constant (is_in ys))
 
-pointwise-test : (first : List Live) (test : Cond) (last : List Live) → IsPointwise (entry last) → IsPointwise (at_test first test last)
+pointwise-test : (first : List Live) (test : Cond) (last : List Live) → IsPointwise (entry last)
+    → IsPointwise (at_test first test last)
 pointwise-test first test last h =
-    pointwise-union (λ a. is_in (test_names test)) (λ a. union a (entry last (entry first nothing))) (pointwise-constant (is_in (test_names test)))
-    (pointwise-union (λ a. a) (λ a. entry last (entry first nothing)) pointwise-itself (pointwise-constant (entry last (entry first nothing))))
+    pointwise-union (λ a. is_in (test_names test)) (λ a. union a (entry last (entry first nothing)))
+    (pointwise-constant (is_in (test_names test)))
+    (pointwise-union (λ a. a) (λ a. entry last (entry first nothing)) pointwise-itself
+    (pointwise-constant (entry last (entry first nothing))))
 
-pointwise-step : (y : Stmt-F Known) → IsPointwise (before_step (map-Stmt Stmt Live live (map-Stmt Known Stmt (λ e. e.0) y)))
+pointwise-step : (y : Stmt-F Known)
+    → IsPointwise (before_step (map-Stmt Stmt Live live (map-Stmt Known Stmt (λ e. e.0) y)))
 pointwise-step (Stmt-F.Lit x n) = pointwise-read (x ∷ []) []
 pointwise-step (Stmt-F.Copy x y) = pointwise-read (x ∷ []) (y ∷ [])
 pointwise-step (Stmt-F.Op x op y z) = pointwise-read (x ∷ []) (y ∷ operand_names z)
@@ -83,10 +90,12 @@ pointwise-step (Stmt-F.Store size y z offset) = pointwise-read [] (y ∷ z ∷ [
 pointwise-step (Stmt-F.Table x size bytes y) = pointwise-read (x ∷ []) (y ∷ [])
 pointwise-step (Stmt-F.Stackalloc x n body) = pointwise-without (entry (lives body)) (x ∷ []) (pointwise-each body)
 pointwise-step (Stmt-F.If test first second) =
-    pointwise-union (λ a. is_in (test_names test)) (λ a. union (entry (lives first) a) (entry (lives second) a)) (pointwise-constant (is_in (test_names test)))
+    pointwise-union (λ a. is_in (test_names test)) (λ a. union (entry (lives first) a) (entry (lives second) a))
+    (pointwise-constant (is_in (test_names test)))
     (pointwise-union (entry (lives first)) (entry (lives second)) (pointwise-each first) (pointwise-each second))
 pointwise-step (Stmt-F.Loop first test last) =
-    pointwise-after (entry (lives first)) (at_test (lives first) test (lives last)) (pointwise-each first) (pointwise-test (lives first) test (lives last) (pointwise-each last))
+    pointwise-after (entry (lives first)) (at_test (lives first) test (lives last)) (pointwise-each first)
+    (pointwise-test (lives first) test (lives last) (pointwise-each last))
 pointwise-step (Stmt-F.Call xs g ys) = pointwise-read xs ys
 pointwise-step (Stmt-F.Read x y) = pointwise-read (x ∷ []) (y ∷ [])
 pointwise-step (Stmt-F.Write y z) = pointwise-read [] (y ∷ z ∷ [])
@@ -98,12 +107,14 @@ pointwise-before = ind-Stmt (λ c. IsPointwise (live c).before) (λ x y is.
 
 pub pointwise-entry : (cs : List Stmt) → IsPointwise (entry (map live cs))
 pointwise-entry [] = pointwise-itself
-pointwise-entry (c ∷ cs) = pointwise-after (live c).before (entry (map live cs)) (pointwise-before c) (pointwise-entry cs)
+pointwise-entry (c ∷ cs) =
+    pointwise-after (live c).before (entry (map live cs)) (pointwise-before c) (pointwise-entry cs)
 
 -- ---- the least set at a loop's test
 
 -- what is live where the first part and then the last part are gone through backward from a set
-handed : (f : Names → Names) → IsPointwise f → (t : Names) (x : ℕ) → IsTrue (f t x) → IsTrue (f nothing x) ⊎ IsTrue (t x)
+handed : (f : Names → Names) → IsPointwise f → (t : Names) (x : ℕ) → IsTrue (f t x)
+    → IsTrue (f nothing x) ⊎ IsTrue (t x)
 handed f h t x k =
     elim (t x) as (λ b. t x ≡ b → IsTrue (f nothing x) ⊎ IsTrue (t x)) [
       | true ↦ λ e. inr e
@@ -116,7 +127,8 @@ pub test-holds : (first : List Stmt) (test : Cond) (last : List Stmt) (after : N
     Within (union (is_in (test_names test)) (union after (entry (map live last) (entry (map live first) t)))) t
 test-holds first test last after x h =
     let f : Names → Names = λ a. entry (map live last) (entry (map live first) a) in
-    let point : IsPointwise f = pointwise-after (entry (map live last)) (entry (map live first)) (pointwise-entry last) (pointwise-entry first) in
+    let point : IsPointwise f = pointwise-after (entry (map live last)) (entry (map live first)) (pointwise-entry last)
+    (pointwise-entry first) in
     let t : Names = at_test (map live first) test (map live last) after in
     let named : Bool = is_in (test_names test) x in
     elim (or_cases named (after x || f t x) h) as (λ w. IsTrue (t x)) [
@@ -136,8 +148,10 @@ pub test-least : (first : List Stmt) (test : Cond) (last : List Stmt) (after set
     Within (at_test (map live first) test (map live last) after) set
 test-least first test last after set closed x h =
     let f : Names → Names = λ a. entry (map live last) (entry (map live first) a) in
-    let point : IsPointwise f = pointwise-after (entry (map live last)) (entry (map live first)) (pointwise-entry last) (pointwise-entry first) in
-    closed x (or_or (is_in (test_names test) x) (after x || f nothing x) (is_in (test_names test) x) (after x || f set x) (λ e. e)
+    let point : IsPointwise f = pointwise-after (entry (map live last)) (entry (map live first)) (pointwise-entry last)
+    (pointwise-entry first) in
+    closed x (or_or (is_in (test_names test) x) (after x || f nothing x) (is_in (test_names test) x)
+    (after x || f set x) (λ e. e)
     (or_or (after x) (f nothing x) (after x) (f set x) (λ e. e) (point nothing set x (λ e. absurd (cc e)))) h)
 
 -- more that is live after a statement is no less that is live before it

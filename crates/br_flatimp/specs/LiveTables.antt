@@ -1,5 +1,5 @@
--- The rules of liveness, over statements that are numbered in preorder. A table says what is live after each
--- statement and at the test of each loop; a rule says that a set is within another.
+-- The rules of liveness, over statements that are numbered in preorder. A table says what is live
+-- after each statement and at the test of each loop; a rule says that a set is within another.
 use Rattle.std.specs.Prelude.{ℕ, suc, ◌+◌, List, [], ◌∷◌, ◌++◌, map, Option, Some, None, slice_get}
 use Rattle.std.specs.List.{AllByRecursion}
 use Rattle.br_flatimp.specs.declared.program.Stmt.{Stmt}
@@ -8,7 +8,8 @@ use Rattle.br_flatimp.specs.declared.program.Stmt.TheFolds.{fold-Stmt}
 use Rattle.br_flatimp.specs.declared.program.FlatFunc.{FlatFunc}
 use Rattle.br_flatimp.specs.Values.{Names}
 use Rattle.br_flatimp.specs.Parts.{written, read, test_names}
-use Rattle.br_flatimp.specs.Liveness.{nothing, is_in, union, without, Within, Moment, function_moments, live_after}
+use Rattle.br_flatimp.specs.Liveness.{nothing, is_in, union, without, Within}
+use Rattle.br_flatimp.specs.Liveness.{Moment, function_moments, live_after}
 
 pub record Table : Type 0 where
   -- the names that are live after a statement, by its number
@@ -42,8 +43,8 @@ abbrev pub entry_at : Table → List Placed → ℕ → Names → Names
 entry_at t [] n end = end
 entry_at t (s ∷ rest) n end = s.before t n
 
--- In a list, what is live after a statement holds what is live before the next, and after the last what is
--- live at the end.
+-- In a list, what is live after a statement holds what is live before the next, and
+-- after the last what is live at the end.
 abbrev pub list_rules : Table → List Placed → ℕ → Names → List Rule
 list_rules t [] n end = []
 list_rules t (s ∷ rest) n end =
@@ -56,22 +57,27 @@ placed_count (Stmt-F.If test first second) = suc (count_all first + count_all se
 placed_count (Stmt-F.Loop first test last) = suc (count_all first + count_all last)
 placed_count y = 1
 
--- The number of a second part is that after the first. The last part of a loop ends where the first begins.
+-- The number of a second part is that after the first. The last part
+-- of a loop ends where the first begins.
 abbrev pub placed_before : Stmt-F Placed → Table → ℕ → Names
-placed_before (Stmt-F.Stackalloc x k body) t n = without (entry_at t body (suc n) (t.after n)) (x ∷ [])
+placed_before (Stmt-F.Stackalloc x k body) t n =
+    without (entry_at t body (suc n) (t.after n)) (x ∷ [])
 placed_before (Stmt-F.If test first second) t n =
     union (is_in (test_names test))
-    (union (entry_at t first (suc n) (t.after n)) (entry_at t second (suc n + count_all first) (t.after n)))
+    (union (entry_at t first (suc n) (t.after n))
+    (entry_at t second (suc n + count_all first) (t.after n)))
 placed_before (Stmt-F.Loop first test last) t n = entry_at t first (suc n) (t.test n)
 placed_before y t n = union (without (t.after n) (written y)) (is_in (read y))
 
 abbrev pub placed_rules : Stmt-F Placed → Table → ℕ → List Rule
 placed_rules (Stmt-F.Stackalloc x k body) t n = list_rules t body (suc n) (t.after n)
 placed_rules (Stmt-F.If test first second) t n =
-    list_rules t first (suc n) (t.after n) ++ list_rules t second (suc n + count_all first) (t.after n)
+    list_rules t first (suc n) (t.after n)
+    ++ list_rules t second (suc n + count_all first) (t.after n)
 placed_rules (Stmt-F.Loop first test last) t n =
     record {
-      small = union (is_in (test_names test)) (union (t.after n) (entry_at t last (suc n + count_all first) (entry_at t first (suc n) (t.test n))));
+      small = union (is_in (test_names test)) (union (t.after n)
+          (entry_at t last (suc n + count_all first) (entry_at t first (suc n) (t.test n))));
       large = t.test n;
     }
     ∷ list_rules t first (suc n) (t.test n)
@@ -94,4 +100,5 @@ test_moment None = nothing
 
 -- what is live after the statements of a function, and at the tests of its loops
 abbrev pub live_table : FlatFunc → Table
-live_table f = record { after = live_after f; test = λ n. test_moment (slice_get (function_moments f) n) }
+live_table f =
+    record { after = live_after f; test = λ n. test_moment (slice_get (function_moments f) n) }

@@ -1,6 +1,8 @@
--- Which names are live where: those whose words may still be read. They are the least sets that hold what a
--- statement reads and what is live after it, its written names aside, at each point of a function.
-use Rattle.std.specs.Prelude.{ℕ, Bool, true, false, not, ◌&&◌, ◌||◌, List, [], ◌∷◌, ◌++◌, map, Option, Some, None, IsTrue, ◌==◌, slice_get}
+-- Which names are live where: those whose words may still be read. They are the
+-- least sets that hold what a statement reads and what is live after it, its written
+-- names aside, at each point of a function.
+use Rattle.std.specs.Prelude.{ℕ, Bool, true, false, not, ◌&&◌, ◌||◌, List, [], ◌∷◌}
+use Rattle.std.specs.Prelude.{◌++◌, map, Option, Some, None, IsTrue, ◌==◌, slice_get}
 use Rattle.std.specs.List.{list_any}
 use Rattle.br_flatimp.specs.declared.program.Cond.{Cond}
 use Rattle.br_flatimp.specs.declared.program.Stmt.{Stmt}
@@ -52,7 +54,8 @@ pub record Live : Type 0 where
   pub before : Names → Names
   -- it and the statements in its parts, in preorder
   pub moments : Names → List Moment
-  -- the sets before and after each of these, at the entry of each list in it, and at the test of each loop
+  -- the sets before and after each of these, at the entry of each
+  -- list in it, and at the test of each loop
   pub points : Names → List Names
 
 -- the set before a list whose end has a set
@@ -68,13 +71,14 @@ abbrev pub points : List Live → Names → List Names
 points [] end = end ∷ []
 points (s ∷ rest) end = s.points (entry rest end) ++ points rest end
 
--- What is live at a loop's test: the names that it reads, what is live after the loop, and what is live before
--- the last part with the first part after it, where nothing is live at the end of the first part. It is the
--- least set that holds the test's names, what is live after the loop, and what is live before the last part
--- with the first part and then the test after it: a part hands on to its start what is live at its end, so
--- a further turn adds nothing.
+-- What is live at a loop's test: the names that it reads, what is live after the loop, and what is
+-- live before the last part with the first part after it, where nothing is live at the end of the
+-- first part. It is the least set that holds the test's names, what is live after the loop, and
+-- what is live before the last part with the first part and then the test after it: a part hands on
+-- to its start what is live at its end, so a further turn adds nothing.
 abbrev pub at_test : List Live → Cond → List Live → Names → Names
-at_test first test last after = union (is_in (test_names test)) (union after (entry last (entry first nothing)))
+at_test first test last after =
+    union (is_in (test_names test)) (union after (entry last (entry first nothing)))
 
 abbrev pub is_removable : {X : Type 0} → Stmt-F X → Bool
 is_removable (Stmt-F.Lit x n) = true
@@ -173,7 +177,8 @@ before_all body = entry (map live body)
 abbrev pub function_moments : FlatFunc → List Moment
 function_moments f = moments (map live f.body) (is_in f.results)
 
--- the sets before and after each statement of a function, at the entry of each list, and at each test
+-- the sets before and after each statement of a function, at
+-- the entry of each list, and at each test
 abbrev pub function_points : FlatFunc → List Names
 function_points f = points (map live f.body) (is_in f.results)
 
@@ -195,4 +200,5 @@ has_no_dead f = not (list_any is_dead (function_moments f))
 
 -- none but copies
 abbrev pub has_no_dead_but_copies : FlatFunc → Bool
-has_no_dead_but_copies f = not (list_any (λ moment. is_dead moment && not moment.is_copy) (function_moments f))
+has_no_dead_but_copies f =
+    not (list_any (λ moment. is_dead moment && not moment.is_copy) (function_moments f))

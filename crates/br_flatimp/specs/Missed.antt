@@ -1,6 +1,7 @@
--- Operands that could be constants: names that a literal set before, in the same list and with nothing
--- between that may change them.
-use Rattle.std.specs.Prelude.{ℕ, Bool, true, false, not, ◌||◌, List, [], ◌∷◌, map, Option, Some, None, if◌then◌else◌}
+-- Operands that could be constants: names that a literal set before, in the same list and with
+-- nothing between that may change them.
+use Rattle.std.specs.Prelude.{ℕ, Bool, true, false, not, ◌||◌, List, []}
+use Rattle.std.specs.Prelude.{◌∷◌, map, Option, Some, None, if◌then◌else◌}
 use Rattle.std.specs.List.{list_any}
 use Rattle.br_words.specs.Words.{signed}
 use Rattle.br_words.specs.declared.operation.BinOp.{BinOp}
@@ -72,8 +73,8 @@ name_operand (Stmt-F.Call xs g ys) = None
 name_operand (Stmt-F.Read x y) = None
 name_operand (Stmt-F.Write y z) = None
 
--- The word that a literal gave a name, looking back over the statements before, the nearest first: up to the
--- first that writes the name, over straight statements only.
+-- The word that a literal gave a name, looking back over the statements before, the nearest first:
+-- up to the first that writes the name, over straight statements only.
 abbrev pub literal_of : ℕ → List Shown → Option ℕ
 literal_of y [] = None
 literal_of y (s ∷ earlier) =
@@ -91,7 +92,8 @@ is_missed None earlier = false
 -- an operand in these statements is missed, after others in the same list, the nearest first
 abbrev pub misses_after : List Shown → List Shown → Bool
 misses_after earlier [] = false
-misses_after earlier (s ∷ rest) = is_missed s.operand earlier || s.misses || misses_after (s ∷ earlier) rest
+misses_after earlier (s ∷ rest) =
+    is_missed s.operand earlier || s.misses || misses_after (s ∷ earlier) rest
 
 abbrev pub shown_step : Stmt-F Shown → Shown
 shown_step y = record {

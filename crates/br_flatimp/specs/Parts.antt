@@ -1,5 +1,5 @@
--- What a statement is made of: the names that it writes and reads itself, its parts aside, and its parts,
--- which are lists of statements.
+-- What a statement is made of: the names that it writes and reads itself, its parts aside, and its
+-- parts, which are lists of statements.
 use Rattle.std.specs.Prelude.{ℕ, Bool, ◌&&◌, List, [], ◌∷◌, ◌++◌}
 use Rattle.std.specs.List.{flat_map, list_all}
 use Rattle.br_flatimp.specs.declared.program.Operand.{Operand}
@@ -79,6 +79,18 @@ statement_names = gathered (λ y. written y ++ read y)
 -- the names in a function
 abbrev pub function_names : FlatFunc → List ℕ
 function_names f = f.args ++ f.results ++ flat_map statement_names f.body
+
+-- the names that a statement writes and reads itself, its parts aside
+
+abbrev pub own_written : Stmt → List ℕ
+own_written = fold-Stmt (List ℕ) written
+
+abbrev pub own_read : Stmt → List ℕ
+own_read = fold-Stmt (List ℕ) read
+
+-- lists of statements, one after another
+abbrev pub joined : List (List Stmt) → List Stmt
+joined = flat_map (λ body. body)
 
 abbrev pub own_callees : {X : Type 0} → Stmt-F X → List ℕ
 own_callees (Stmt-F.Call xs g ys) = g ∷ []

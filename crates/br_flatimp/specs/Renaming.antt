@@ -42,7 +42,8 @@ renamed_step to (Stmt-F.Write y z) = Stmt-F.Write (to y) (to z)
 abbrev pub renamed : (ℕ → ℕ) → Stmt → Stmt
 renamed to = fold-Stmt Stmt (λ y. roll-Stmt (renamed_step to y))
 
--- each live name has the word that it has in the other, where it has one there, maybe by another name
+-- each live name has the word that it has in the other, where
+-- it has one there, maybe by another name
 abbrev pub Covers : (ℕ → ℕ) → Names → Locals → Locals → Type 0
 Covers to live l m = (x : ℕ) → IsTrue (live x) → IsSameDefined (l (to x)) (m x)
 
@@ -50,14 +51,15 @@ Covers to live l m = (x : ℕ) → IsTrue (live x) → IsSameDefined (l (to x)) 
 abbrev pub IsApart : (ℕ → ℕ) → ℕ → Names → Type 0
 IsApart to x live = (z : ℕ) → IsTrue (live z) → to z ≡ to x → z ≡ x
 
--- A statement may be renamed, and its calls may forget names: its written names stay apart from what is live
--- after the write, and what is live after a call and not its result is not forgotten.
+-- A statement may be renamed, and its calls may forget names: its written names stay apart from
+-- what is live after the write, and what is live after a call and not its result is not forgotten.
 pub record Allows (to : ℕ → ℕ) (forgets : Forgets) (m : Moment) : Type 0 where
   pub apart : (x : ℕ) → IsTrue (is_in m.written x) → IsApart to x m.after_write
-  pub kept : (g x : ℕ) → IsTrue (is_in m.callees g) → IsTrue (m.after x) → is_in m.written x ≡ false → forgets g (to x) ≡ false
+  pub kept : (g x : ℕ) → IsTrue (is_in m.callees g) → IsTrue (m.after x) → is_in m.written x ≡ false
+      → forgets g (to x) ≡ false
 
--- A function and one with other names throughout. Its arguments get different names, and each statement may
--- be renamed.
+-- A function and one with other names throughout. Its arguments get different
+-- names, and each statement may be renamed.
 pub record RenamedFunction (to : ℕ → ℕ) (forgets : Forgets) (f2 f : FlatFunc) : Type 0 where
   pub name : f2.name ≡ f.name
   pub args : f2.args ≡ map to f.args
@@ -69,18 +71,22 @@ pub record RenamedFunction (to : ℕ → ℕ) (forgets : Forgets) (f2 f : FlatFu
 -- functions, and those with other names, each by a renaming of its own
 abbrev pub RenamedFunctions : Forgets → List FlatFunc → List FlatFunc → Type 0
 RenamedFunctions forgets [] [] = Unit {0}
-RenamedFunctions forgets (f2 ∷ fs2) (f ∷ fs) = ((to : ℕ → ℕ) × RenamedFunction to forgets f2 f) × RenamedFunctions forgets fs2 fs
+RenamedFunctions forgets (f2 ∷ fs2) (f ∷ fs) =
+    ((to : ℕ → ℕ) × RenamedFunction to forgets f2 f) × RenamedFunctions forgets fs2 fs
 RenamedFunctions forgets [] (f ∷ fs) = ⊥
 RenamedFunctions forgets (f2 ∷ fs2) [] = ⊥
 
 -- what is live after a call, and not its result, is not forgotten
 pub record ForgetsDead (forgets : Forgets) (m : Moment) : Type 0 where
-  pub kept : (g x : ℕ) → IsTrue (is_in m.callees g) → IsTrue (m.after x) → is_in m.written x ≡ false → forgets g x ≡ false
+  pub kept : (g x : ℕ) → IsTrue (is_in m.callees g) → IsTrue (m.after x) → is_in m.written x ≡ false
+      → forgets g x ≡ false
 
 -- no function reads a name that one of its calls forgot
 abbrev pub ReadsNoForgotten : Forgets → List FlatFunc → Type 0
-ReadsNoForgotten forgets = AllByRecursion (λ f. AllByRecursion (ForgetsDead forgets) (function_moments f))
+ReadsNoForgotten forgets =
+    AllByRecursion (λ f. AllByRecursion (ForgetsDead forgets) (function_moments f))
 
--- two states that differ in variables alone, where those of the first cover the live ones of the second
+-- two states that differ in variables alone, where those of the
+-- first cover the live ones of the second
 abbrev pub At : (ℕ → ℕ) → Names → State → State → Type 0
 At to live = Beside (Covers to live)

@@ -1,5 +1,6 @@
 -- Sizes of flat programs, and the stack that functions need.
-use Rattle.std.specs.Prelude.{◌≡◌, ℕ, zero, suc, ◌+◌, ◌*◌, ◌/◌, ◌≤◌, max, min, eqb, List, [], ◌∷◌, map, sum, length, Option, Some, None, slice_get}
+use Rattle.std.specs.Prelude.{◌≡◌, ℕ, zero, suc, ◌+◌, ◌*◌, ◌/◌, ◌≤◌, max, min, eqb, List}
+use Rattle.std.specs.Prelude.{[], ◌∷◌, map, sum, length, Option, Some, None, slice_get}
 use Rattle.std.specs.List.{Contains}
 use Rattle.std.specs.Set.{distinct_count}
 use Rattle.br_flatimp.specs.declared.program.Stmt.{Stmt}
@@ -139,14 +140,15 @@ HasNoRecursion fs = (f : ℕ) (between : List ℕ) → CallPath fs f between f �
 abbrev pub own_need : FlatFunc → ℕ
 own_need f = 4 * (distinct_count eqb (function_names f) + 1) + nest f
 
--- What a function needs, and the most that one of its callees needs, where a number that is no word counts
--- as the greatest word. Where no function has a path of calls to itself, a path of calls has no more
--- functions than the program, so a depth of that number is enough.
+-- What a function needs, and the most that one of its callees needs, where a number that is no word
+-- counts as the greatest word. Where no function has a path of calls to itself, a path of calls has
+-- no more functions than the program, so a depth of that number is enough.
 abbrev pub need_within : ℕ → List FlatFunc → Option FlatFunc → ℕ
 need_within zero fs f = 0
 need_within (suc depth) fs None = 0
 need_within (suc depth) fs (Some f) =
-    min 4294967295 (own_need f + largest (map (λ g. need_within depth fs (slice_get fs g)) (callees f)))
+    min 4294967295
+    (own_need f + largest (map (λ g. need_within depth fs (slice_get fs g)) (callees f)))
 
 abbrev pub need : List FlatFunc → FlatFunc → ℕ
 need fs f = need_within (length fs) fs (Some f)

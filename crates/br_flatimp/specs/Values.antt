@@ -1,5 +1,6 @@
 -- The words of names, of operands and of tests.
-use Rattle.std.specs.Prelude.{ℕ, Bool, not, List, [], ◌∷◌, Option, Some, None, ℤ, int_lt, nat_lt, ◌==◌, if◌then◌else◌}
+use Rattle.std.specs.Prelude.{ℕ, Bool, not, List, [], ◌∷◌, Option, Some}
+use Rattle.std.specs.Prelude.{None, ℤ, int_lt, nat_lt, ◌==◌, if◌then◌else◌}
 use Rattle.br_words.specs.Words.{signed, wrapped, flag, value_of_op}
 use Rattle.br_words.specs.declared.operation.BinOp.TheVariants as op
 use Rattle.br_bytes.specs.Memory.{in_front}
@@ -29,8 +30,8 @@ with_local x v locals y = if y == x then Some v else locals y
 abbrev pub without_names : Names → Locals → Locals
 without_names set locals y = if set y then None else locals y
 
--- Names set to words in turn, and not set where no word is left. A well formed program has as many words
--- here as names.
+-- Names set to words in turn, and not set where no word is left. A well formed
+-- program has as many words here as names.
 abbrev pub with_locals : List ℕ → List ℕ → Locals → Locals
 with_locals [] vs locals = locals
 with_locals (x ∷ xs) (v ∷ vs) locals = with_locals xs vs (with_local x v locals)

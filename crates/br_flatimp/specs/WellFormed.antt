@@ -1,9 +1,13 @@
 -- Which flat programs are well formed, and which are in register form.
-use Rattle.std.specs.Prelude.{ℕ, suc, ◌%◌, Bool, true, false, not, ◌&&◌, List, [], ◌∷◌, length, Option, Some, None, IsTrue, nat_lt, nat_le, ◌==◌, ℤ, pos, negsuc, int_le, slice_get}
+use Rattle.std.specs.Prelude.{ℕ, suc, ◌%◌, Bool, true, false, not, ◌&&◌, List, []}
+use Rattle.std.specs.Prelude.{◌∷◌, length, Option, Some, None, IsTrue, nat_lt}
+use Rattle.std.specs.Prelude.{nat_le, ◌==◌, ℤ, pos, negsuc, int_le, slice_get}
 use Rattle.std.specs.List.{list_all, list_any}
 use Rattle.std.specs.Str.{bytes_eq}
 use Rattle.br_words.specs.declared.operation.BinOp.{BinOp}
-use Rattle.br_words.specs.declared.operation.BinOp.TheVariants.{Add, Sub, Mul, Mulhuu, Divu, Remu, And, Or, Xor, Sru, Slu, Srs, Lts, Ltu, Eq}
+use Rattle.br_words.specs.declared.operation.BinOp.TheVariants.{Add, Sub, Mul, Mulhuu, Divu}
+use Rattle.br_words.specs.declared.operation.BinOp.TheVariants.{Remu, And, Or, Xor, Sru}
+use Rattle.br_words.specs.declared.operation.BinOp.TheVariants.{Slu, Srs, Lts, Ltu, Eq}
 use Rattle.br_flatimp.specs.declared.program.Operand.{Operand}
 use Rattle.br_flatimp.specs.declared.program.Operand.TheVariants as operand
 use Rattle.br_flatimp.specs.declared.program.Stmt.{Stmt}
@@ -58,7 +62,8 @@ values_fit fs (Stmt-F.Op x op y z) = operand_fits op z
 values_fit fs (Stmt-F.Load x size y offset) = is_immediate offset
 values_fit fs (Stmt-F.Store size y z offset) = is_immediate offset
 values_fit fs (Stmt-F.Stackalloc x n body) = n % 4 == 0
-values_fit fs (Stmt-F.Call xs g ys) = counts_fit (slice_get fs g) (length xs) (length ys) && all_differ xs
+values_fit fs (Stmt-F.Call xs g ys) =
+    counts_fit (slice_get fs g) (length xs) (length ys) && all_differ xs
 values_fit fs (Stmt-F.Lit x n) = true
 values_fit fs (Stmt-F.Copy x y) = true
 values_fit fs (Stmt-F.Table x size bytes y) = true
@@ -87,7 +92,8 @@ is_well_formed_head f =
     nat_le f.names 1048576 && is_list_of_names f.names f.args && is_list_of_names f.names f.results
 
 abbrev pub is_well_formed_function : List FlatFunc → FlatFunc → Bool
-is_well_formed_function fs f = is_well_formed_head f && list_all (is_well_formed_statement fs f.names) f.body
+is_well_formed_function fs f =
+    is_well_formed_head f && list_all (is_well_formed_statement fs f.names) f.body
 
 -- no two functions have one name
 abbrev pub names_differ : List FlatFunc → Bool

@@ -4,7 +4,11 @@ ghost use Rattle.std.specs.Prelude.{◌≡◌, ◌==◌, ◌%◌, ◌&&◌, slic
 ghost use Rattle.std.specs.List.{list_all, list_any};
 ghost use Rattle.std.specs.Str.{bytes_eq};
 ghost use Rattle.br_flatimp.specs.Parts.{test_names, operand_names};
-ghost use Rattle.br_flatimp.specs.WellFormed.{all_differ, are_below, counts_fit, fits_operation, is_between, is_immediate, is_list_of_names, is_well_formed, is_well_formed_function, is_well_formed_head, is_well_formed_statement, names_differ, operand_fits};
+ghost use Rattle.br_flatimp.specs.WellFormed.{all_differ, are_below, counts_fit, fits_operation};
+ghost use Rattle.br_flatimp.specs.WellFormed.{is_between, is_immediate, is_list_of_names};
+ghost use Rattle.br_flatimp.specs.WellFormed.{is_well_formed, is_well_formed_function};
+ghost use Rattle.br_flatimp.specs.WellFormed.{is_well_formed_head, is_well_formed_statement};
+ghost use Rattle.br_flatimp.specs.WellFormed.{names_differ, operand_fits};
 
 use crate::program::{Cond, FlatFunc, FlatProgram, Operand, Stmt};
 use br_words::BinOp;
@@ -14,11 +18,12 @@ const MOST_NAMES: u32 = 1_048_576;
 
 const MOST_PASSED: usize = 8;
 
-/// Whether a program's names, counts, callees, offsets, sizes and constants are in range. The functions
-/// have different names. Each has at most 1,048,576 names, at most 8 arguments and at most 8 results.
-/// Each name is below the count of its function's names. A call has the counts of the function that it
-/// calls. Arguments, results and the results of a call have no repeats. A byte offset is from -2048 to
-/// 2047, a buffer's size is a multiple of 4, and a constant is one that its operation may have.
+/// Whether a program's names, counts, callees, offsets, sizes and constants are in range. The
+/// functions have different names. Each has at most 1,048,576 names, at most 8 arguments and
+/// at most 8 results. Each name is below the count of its function's names. A call has the
+/// counts of the function that it calls. Arguments, results and the results of a call have no
+/// repeats. A byte offset is from -2048 to 2047, a buffer's size is a multiple of 4, and a
+/// constant is one that its operation may have.
 pub fn well_formed(p: &FlatProgram) -> bool
     ensures { result ≡ is_well_formed p.now.funcs }
 {
@@ -98,7 +103,8 @@ fn is_among(x: u32, xs: &[u32]) -> bool
 }
 
 fn bodies_fit(funcs: &[FlatFunc]) -> bool
-    ensures { result ≡ list_all (λ f. list_all (is_well_formed_statement funcs.now f.names) f.body) funcs.now }
+    ensures { result
+        ≡ list_all (λ f. list_all (is_well_formed_statement funcs.now f.names) f.body) funcs.now }
 {
     funcs
         .iter()
@@ -181,7 +187,10 @@ fn operand_fits(op: BinOp, z: Operand) -> bool
     }
 }
 
-fn constant_fits(op: BinOp, c: i32) -> bool
+/// Whether a constant, as a signed number, may be the second operand of an operation: from -2048 to
+/// 2047 as in the I-type instructions of the RISC-V manual (section 2.4), for a difference the
+/// opposites of these, for a shift from 0 to 31, and none for a product, a quotient or a remainder.
+pub fn constant_fits(op: BinOp, c: i32) -> bool
     ensures { result ≡ fits_operation op c }
 {
     match op {

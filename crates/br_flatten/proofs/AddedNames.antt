@@ -14,5 +14,6 @@ pub names_step : {X : Type 0} (F : X → List Name) (xs : List X) (i : ℕ) (x :
     → with_names names (all_of (map F (drop i xs))) ≡ whole → with_names more (all_of (map F (drop (i + 1) xs))) ≡ whole
 names_step {X} F xs i x names more whole inside is one so_far =
     let split : drop i xs ≡ x ∷ drop (i + 1) xs = grind (arith, common_steps) in
-    let there = ap (λ (ys : List X). with_names names (all_of (map F ys))) split ∙ with_names-append names (F x) (all_of (map F (drop (i + 1) xs))) in
+    let there = ap (λ (ys : List X). with_names names (all_of (map F ys))) split
+    ∙ with_names-append names (F x) (all_of (map F (drop (i + 1) xs))) in
     rw (one, ← there) so_far

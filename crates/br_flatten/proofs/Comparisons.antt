@@ -1,5 +1,6 @@
 -- What operations ask as tests, and the test that holds where another does not.
-use Rattle.std.proofs.Common.{◌≡◌, ◌≢◌, ℕ, ◌<◌, ◌≤◌, ◌==◌, Bool, true, false, not, [], ◌∷◌, ◌++◌, Option, Some, None, refl, sym, ap, ◌∙◌, arith}
+use Rattle.std.proofs.Common.{◌≡◌, ◌≢◌, ℕ, ◌<◌, ◌≤◌, ◌==◌, Bool, true, false, not, []}
+use Rattle.std.proofs.Common.{◌∷◌, ◌++◌, Option, Some, None, refl, sym, ap, ◌∙◌, arith}
 use Rattle.std.proofs.lemmas.Bool.Decides.{Decides-eqb}
 use Rattle.br_words.specs.declared.operation.BinOp.{BinOp}
 use Rattle.br_words.specs.declared.operation.BinOp.TheVariants as op
@@ -97,20 +98,33 @@ not_flag : (b : Bool) → flag (not b) ≡ flag (flag b == 0)
 not_flag true = refl
 not_flag false = refl
 
-opposite-compared : (r : Rel) (o p : Option ℕ) (v : ℕ) → compared r o p ≡ Some v → compared (opposite r) o p ≡ Some (flag (v == 0))
+opposite-compared : (r : Rel) (o p : Option ℕ) (v : ℕ) → compared r o p ≡ Some v
+    → compared (opposite r) o p ≡ Some (flag (v == 0))
 opposite-compared r None p v e = absurd (cc e)
 opposite-compared r (Some a) None v e = absurd (cc e)
 opposite-compared r (Some a) (Some b) v e =
     let word : flag (compares r a b) ≡ v = cc e in
-    ap (λ c. Some (flag c)) (opposite-compares r a b) ∙ ap Some (not_flag (compares r a b)) ∙ ap (λ w. Some (flag (w == 0))) word
+    ap (λ c. Some (flag c)) (opposite-compares r a b) ∙ ap Some (not_flag (compares r a b))
+    ∙ ap (λ w. Some (flag (w == 0))) word
 
-pub negation-tests : (call : Callee) (s : State) (t : Test) (v free : ℕ) → Tests (does call t.before) s t.cond v free t.next
-    → Tests (does call (negation t).before) s (negation t).cond (flag (v == 0)) free (negation t).next
-negation-tests call s t v free tests = by t.cond t.next tests
+-- a name that holds the literal 0, below a number
+pub record HoldsZero (s : State) (free y : ℕ) : Type 0 where
+  pub word : s.locals y ≡ Some 0
+  pub below : y < free
+
+pub negation-tests : (call : Callee) (s : State) (t : Test) (zero : Option ℕ) (v free : ℕ)
+    → ((y : ℕ) → zero ≡ Some y → HoldsZero s free y) → Tests (does call t.before) s t.cond v free t.next
+    → Tests (does call (negation zero t).before) s (negation zero t).cond (flag (v == 0)) free (negation zero t).next
+negation-tests call s t zero v free holds tests = by zero t.cond t.next holds tests
   where
-    by : (cond : Cond) (after : ℕ) → Tests (does call t.before) s cond v free after
-        → Tests (does call (t.before ++ zero_before cond after)) s (turned cond after) (flag (v == 0)) free (next_turned cond after)
-    by (Compare r y z) after d = record {
+    apart : (y after : ℕ) → y < after → y ≢ after
+    apart y after less e = absurd (omega (arith, less, e))
+
+    by : (zero : Option ℕ) (cond : Cond) (after : ℕ) → ((y : ℕ) → zero ≡ Some y → HoldsZero s free y)
+        → Tests (does call t.before) s cond v free after
+        → Tests (does call (t.before ++ zero_before zero cond after)) s (turned zero cond after) (flag (v == 0)) free
+        (next_turned zero cond after)
+    by zero (Compare r y z) after holds d = record {
       locals = d.locals;
       runs = does-after call t.before [] s (record s { locals = d.locals }) d.runs;
       word = opposite-compared r (d.locals y) (d.locals z) v d.word;
@@ -118,19 +132,33 @@ negation-tests call s t v free tests = by t.cond t.next tests
       below = d.below;
       grows = d.grows;
     }
-    by (NonZero y) after d =
+    by (Some k) (NonZero y) after holds d =
+        let h = holds k refl in
+        let inside = h.below in
+        let below = d.below in
+        let grows = d.grows in
+        record {
+          locals = d.locals;
+          runs = does-after call t.before [] s (record s { locals = d.locals }) d.runs;
+          word = ap (λ o. compared rel.Eq o (d.locals k)) d.word
+              ∙ ap (compared rel.Eq (Some v)) (d.others k inside ∙ h.word);
+          others = d.others;
+          below = omega (arith, below, inside, grows);
+          grows = grows;
+        }
+    by None (NonZero y) after holds d =
         let below = d.below in
         let grows = d.grows in
         let u : State = record s { locals = d.locals } in
         let locals : Locals = with_local after 0 d.locals in
         record {
           locals = locals;
-          runs = does-after call t.before (roll-Stmt (Stmt-F.Lit after 0) ∷ []) s u d.runs ∙ does-one call (Stmt-F.Lit after 0) u;
-          word = ap (λ o. compared rel.Eq o (locals after)) (with-other after 0 y d.locals (apart y (omega (arith, below))) ∙ d.word) ∙ ap (compared rel.Eq (Some v)) (with-same after 0 d.locals);
-          others = λ y less. with-other after 0 y d.locals (apart y (omega (arith, less, grows))) ∙ d.others y less;
+          runs = does-after call t.before (roll-Stmt (Stmt-F.Lit after 0) ∷ []) s u d.runs
+              ∙ does-one call (Stmt-F.Lit after 0) u;
+          word = ap (λ o. compared rel.Eq o (locals after)) (with-other after 0 y d.locals (apart y after
+              (omega (arith, below))) ∙ d.word) ∙ ap (compared rel.Eq (Some v)) (with-same after 0 d.locals);
+          others =
+              λ y less. with-other after 0 y d.locals (apart y after (omega (arith, less, grows))) ∙ d.others y less;
           below = omega (arith, below);
           grows = omega (arith, grows);
         }
-      where
-        apart : (y : ℕ) → y < after → y ≢ after
-        apart y less e = absurd (omega (arith, less, e))

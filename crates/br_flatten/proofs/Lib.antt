@@ -1,5 +1,6 @@
 pub mod Numbers
 pub mod Turns
+pub mod Holders
 pub mod Comparisons
 pub mod Literals
 pub mod Expressions
@@ -9,12 +10,9 @@ pub mod Programs
 pub mod AddedNames
 pub mod LeastAbove
 pub mod Fine
-pub mod Kept
-pub mod Endings
-pub mod LoopRuns
-pub mod LoopSizes
 pub mod ExpressionSizes
 pub mod StatementNames
+pub mod StatementUnits
 pub mod CommandSizes
 pub mod FirstPlaces
 pub mod ProgramSizes

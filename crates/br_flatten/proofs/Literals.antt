@@ -1,5 +1,6 @@
 -- The constant in the place of a literal is the same word, and operands may be exchanged where they are.
-use Rattle.std.proofs.Common.{◌≡◌, ℕ, ◌-◌, ◌%◌, ◌^◌, ◌<◌, ◌==◌, ◌&&◌, Bool, true, false, if◌then◌else◌, Option, Some, None, ℤ, pos, negsuc, nat_lt, refl, sym, ap, ◌∙◌, arith}
+use Rattle.std.proofs.Common.{◌≡◌, ℕ, ◌-◌, ◌%◌, ◌^◌, ◌<◌, ◌==◌, ◌&&◌, Bool, true, false, if◌then◌else◌}
+use Rattle.std.proofs.Common.{Option, Some, None, ℤ, pos, negsuc, nat_lt, refl, sym, ap, ◌∙◌, arith}
 use Rattle.std.proofs.lemmas.Bool.Decides.{nat_tests}
 use Rattle.std.proofs.lemmas.Nat.{and_comm, or_comm, xor_comm}
 use Rattle.br_words.specs.declared.operation.BinOp.{BinOp}
@@ -37,7 +38,8 @@ pub stands : (op : BinOp) (literal : Option ℕ) (c : ℤ) → constant op liter
 stands op None c e = absurd (cc e)
 stands op (Some n) c e = by (nat_lt n (2 ^ 32) && fits_operation op (signed n)) refl e
   where
-    by : (b : Bool) → (nat_lt n (2 ^ 32) && fits_operation op (signed n)) ≡ b → (if b then Some (signed n) else None) ≡ Some c → Stands op (Some n) c
+    by : (b : Bool) → (nat_lt n (2 ^ 32) && fits_operation op (signed n)) ≡ b
+        → (if b then Some (signed n) else None) ≡ Some c → Stands op (Some n) c
     by true fits e =
         let same : signed n ≡ c = cc e in
         record {
@@ -91,7 +93,13 @@ pub record Offset (o : BinOp) (literal : Option ℕ) (c : ℤ) : Type 0 where
 pub offset-stands : (o : BinOp) (literal : Option ℕ) (c : ℤ) → byte_offset o literal ≡ Some c → Offset o literal c
 offset-stands op.Add literal c e =
     let z = stands op.Add literal c e in
-    record { word = z.word; is = z.is; moves = λ a. ap (value_of_op op.Add a) z.same; exchanges = commuting op.Add refl; fits = z.fits }
+    record {
+      word = z.word;
+      is = z.is;
+      moves = λ a. ap (value_of_op op.Add a) z.same;
+      exchanges = commuting op.Add refl;
+      fits = z.fits;
+    }
 offset-stands op.Sub literal c e = absurd (cc e)
 offset-stands op.Mul literal c e = absurd (cc e)
 offset-stands op.Mulhuu literal c e = absurd (cc e)

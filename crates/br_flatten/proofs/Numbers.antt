@@ -1,5 +1,6 @@
 -- Lemmas on numbers of names, on set names, and on bytes at an address that is moved by nothing.
-use Rattle.std.proofs.Common.{◌≡◌, ◌≢◌, ℕ, zero, suc, ◌+◌, ◌%◌, ◌^◌, ◌<◌, ◌==◌, ◌||◌, ◌&&◌, Bool, true, false, if◌then◌else◌, List, [], ◌∷◌, length, Some, refl, sym, ap, ◌∙◌, arith, pos}
+use Rattle.std.proofs.Common.{◌≡◌, ◌≢◌, ℕ, zero, suc, ◌+◌, ◌%◌, ◌^◌, ◌<◌, ◌==◌, ◌||◌, ◌&&◌, Bool, true, false}
+use Rattle.std.proofs.Common.{if◌then◌else◌, List, [], ◌∷◌, length, Some, refl, sym, ap, ◌∙◌, arith, pos}
 use Rattle.std.specs.FinMap as map
 use Rattle.std.specs.Str.{bytes_eq}
 use Rattle.std.proofs.lemmas.Bool.Decides.{nat_tests}
@@ -21,7 +22,8 @@ pub number-below : (names : List Name) (x : Name) → is_listed names x ≡ true
 number-below [] x h = absurd (cc h)
 number-below (y ∷ ys) x h = by (bytes_eq y x) (number-below ys x) h
   where
-    by : (b : Bool) → (is_listed ys x ≡ true → number ys x < length ys) → (b || is_listed ys x) ≡ true → (if b then 0 else suc (number ys x)) < suc (length ys)
+    by : (b : Bool) → (is_listed ys x ≡ true → number ys x < length ys) → (b || is_listed ys x) ≡ true
+        → (if b then 0 else suc (number ys x)) < suc (length ys)
     by true again h = omega arith
     by false again h = let less = again h in omega (arith, less)
 
@@ -29,7 +31,9 @@ pub number-same : (names : List Name) (x y : Name) → is_listed names x ≡ tru
 number-same [] x y h e = absurd (cc h)
 number-same (z ∷ zs) x y h e = by (bytes_eq z x) (bytes_eq z y) refl refl (number-same zs x y) h e
   where
-    by : (b c : Bool) → bytes_eq z x ≡ b → bytes_eq z y ≡ c → (is_listed zs x ≡ true → number zs x ≡ number zs y → x ≡ y) → (b || is_listed zs x) ≡ true → (if b then 0 else suc (number zs x)) ≡ (if c then 0 else suc (number zs y)) → x ≡ y
+    by : (b c : Bool) → bytes_eq z x ≡ b
+        → bytes_eq z y ≡ c → (is_listed zs x ≡ true → number zs x ≡ number zs y → x ≡ y) → (b || is_listed zs x) ≡ true
+        → (if b then 0 else suc (number zs x)) ≡ (if c then 0 else suc (number zs y)) → x ≡ y
     by true true p q again h e = sym ((bytes_eq-Decides z x).0 p) ∙ (bytes_eq-Decides z y).0 q
     by true false p q again h e = absurd (omega (arith, e))
     by false true p q again h e = absurd (omega (arith, e))
@@ -57,12 +61,14 @@ next_place a b e = omega (arith, e)
 pub same_bytes : (m : Memory) (n a b : ℕ) → place a ≡ place b → bytes_at m a n ≡ bytes_at m b n
 same_bytes m zero a b e = refl
 same_bytes m (suc n) a b e =
-    ap (λ q. in_front (map.get m q) (bytes_at m (a + 1) n)) e ∙ ap (in_front (map.get m (place b))) (same_bytes m n (a + 1) (b + 1) (next_place a b e))
+    ap (λ q. in_front (map.get m q) (bytes_at m (a + 1) n)) e
+    ∙ ap (in_front (map.get m (place b))) (same_bytes m n (a + 1) (b + 1) (next_place a b e))
 
 pub same_written : (m : Memory) (bs : List ℕ) (a b : ℕ) → place a ≡ place b → with_bytes m a bs ≡ with_bytes m b bs
 same_written m [] a b e = refl
 same_written m (x ∷ bs) a b e =
-    ap (λ q. map.insert (with_bytes m (a + 1) bs) q x) e ∙ ap (λ k. map.insert k (place b) x) (same_written m bs (a + 1) (b + 1) (next_place a b e))
+    ap (λ q. map.insert (with_bytes m (a + 1) bs) q x) e
+    ∙ ap (λ k. map.insert k (place b) x) (same_written m bs (a + 1) (b + 1) (next_place a b e))
 
 pub place-moved : (a : ℕ) → place (moved a (pos 0)) ≡ place a
 place-moved a = twice a

@@ -1,5 +1,6 @@
 -- The flat program of a program's simplest form refines the program, is well formed, and is sized by it.
-use Rattle.std.proofs.Common.{◌≡◌, ℕ, zero, suc, ◌+◌, ◌<◌, ◌≤◌, List, [], ◌∷◌, map, sum, length, Option, Some, None, slice_get, slice_index_or, refl, sym, ap, subst, ◌∙◌, arith}
+use Rattle.std.proofs.Common.{◌≡◌, ℕ, zero, suc, ◌+◌, ◌<◌, ◌≤◌, List, [], ◌∷◌, map, sum, length, Option}
+use Rattle.std.proofs.Common.{Some, None, slice_get, slice_index_or, refl, sym, ap, subst, ◌∙◌, arith}
 use Rattle.std.specs.List.{sum_by, Contains}
 use Rattle.std.specs.Option.{option_map}
 use Rattle.std.proofs.lemmas.List.Sums.{sum-map, sum_by-cons}
@@ -18,11 +19,10 @@ use Rattle.br_simplify.specs.Simple.{simple_function, simple_program}
 use Rattle.br_flatimp.specs.declared.program.FlatFunc.{FlatFunc}
 use Rattle.br_flatimp.specs.Refines.{Refines, meaning}
 use Rattle.br_flatimp.specs.WellFormed.{IsWellFormed}
-use Rattle.br_flatten.specs.Flatten.{number, callee_number, flat_program}
+use Rattle.br_flatten.specs.Flatten.{number, callee_number}
 use Rattle.br_flatten.specs.Meaning.{source_signature, source_meaning}
-use Rattle.br_flatten.specs.Places.{first_places}
+use Rattle.br_flatten.specs.Programs.{AreFlat}
 use Rattle.br_flatten.specs.Sized.{AreSized}
-use Rattle.br_flatten.proofs.FirstPlaces.{all-lists-places}
 use Rattle.br_flatten.proofs.FlatPrograms.{flat-well_formed, flat-sized}
 use Rattle.br_flatten.proofs.Programs.{flat-refines}
 
@@ -44,27 +44,32 @@ module _ (laws : Laws)
     same_signatures [] = refl
     same_signatures (f ∷ fs) = ap (λ ss. source_signature f ∷ ss) (same_signatures fs)
 
-    same_enter : (call : Callee) (o : Option Func) (args : List ℕ) (s : State) → enter call (option_map simple_function o) args s ≡ enter call o args s
+    same_enter : (call : Callee) (o : Option Func) (args : List ℕ) (s : State)
+        → enter call (option_map simple_function o) args s ≡ enter call o args s
     same_enter call None args s = refl
     same_enter call (Some f) args s = ap (λ g. g args s) (laws.function call f)
 
     same_call : (fs : List Func) (g : ℕ) (args : List ℕ) (k : ℕ) (s : State)
-        → enter (function_of (simple_program fs) k) (slice_get (simple_program fs) g) args s ≡ enter (function_of fs k) (slice_get fs g) args s
+        → enter (function_of (simple_program fs) k) (slice_get (simple_program fs) g) args s
+        ≡ enter (function_of fs k) (slice_get fs g) args s
     same_call fs g args k s =
         ap (λ q. enter q (slice_get (simple_program fs) g) args s) (laws.calls fs k)
-        ∙ ap (λ o. enter (function_of fs k) o args s) (slice_get-map simple_function fs g) ∙ same_enter (function_of fs k) (slice_get fs g) args s
+        ∙ ap (λ o. enter (function_of fs k) o args s) (slice_get-map simple_function fs g)
+        ∙ same_enter (function_of fs k) (slice_get fs g) args s
 
     pub same_meaning : (fs : List Func) → source_meaning (simple_program fs) ≡ source_meaning fs
     same_meaning fs = λ i. record {
       signatures = same_signatures fs i;
       call = λ g args m answers choices fuel.
-          seen (same_call fs g args fuel (record { locals = no_locals; memory = m; trace = []; answers = answers; choices = choices; fuel = fuel }) i);
+          seen (same_call fs g args fuel
+          (record { locals = no_locals; memory = m; trace = []; answers = answers; choices = choices; fuel = fuel })
+          i);
     }
 
-    pub simple-refines : (fs : List Func) → HasNoNameFault fs → Refines (meaning (flat_program first_places (simple_program fs))) (source_meaning fs)
-    simple-refines fs sound =
-        let gs = simple_program fs in
-        subst (λ p. Refines (meaning (flat_program first_places gs)) p) (same_meaning fs) (flat-refines gs first_places (laws.names fs sound) (all-lists-places gs))
+    pub simple-refines : (fs : List Func) (qs : List FlatFunc) → HasNoNameFault fs
+        → AreFlat (simple_program fs) (simple_program fs) qs → Refines (meaning qs) (source_meaning fs)
+    simple-refines fs qs sound flats = subst (λ p. Refines (meaning qs) p) (same_meaning fs)
+        (flat-refines (simple_program fs) qs (laws.names fs sound) flats)
 
     -- ---- sizes
 
@@ -81,10 +86,18 @@ module _ (laws : Laws)
     pub smaller : (fs : List Func) → bulk (simple_program fs) ≤ bulk fs
     smaller [] = omega arith
     smaller (f ∷ fs) =
-        omega (arith, sum_more (function_bulk (simple_function f)) (map function_bulk (simple_program fs)), sum_more (function_bulk f) (map function_bulk fs), laws.bulk f, smaller fs)
+        omega (
+          arith,
+          sum_more (function_bulk (simple_function f)) (map function_bulk (simple_program fs)),
+          sum_more (function_bulk f) (map function_bulk fs),
+          laws.bulk f,
+          smaller fs,
+        )
 
-    pub simple-well_formed : (fs : List Func) → HasNoNameFault fs → IsShaped fs → bulk fs ≤ 32768 → IsWellFormed (flat_program first_places (simple_program fs))
-    simple-well_formed fs sound shaped small = flat-well_formed (simple_program fs) (laws.names fs sound) (laws.limits fs shaped) (omega (arith, smaller fs, small))
+    pub simple-well_formed : (fs : List Func) (qs : List FlatFunc) → HasNoNameFault fs → IsShaped fs → bulk fs ≤ 32768
+        → AreFlat (simple_program fs) (simple_program fs) qs → IsWellFormed qs
+    simple-well_formed fs qs sound shaped small flats = flat-well_formed (simple_program fs) qs flats
+        (laws.names fs sound) (laws.limits fs shaped) (omega (arith, smaller fs, small))
 
     -- ---- callees
 
@@ -96,27 +109,33 @@ module _ (laws : Laws)
     same_number fs x = ap (λ xs. number xs x) (same_names fs)
 
     -- a name of which a number comes
-    of_map : (F : Name → ℕ) (xs : List Name) (g k : ℕ) → k < length (map F xs) → slice_index_or (map F xs) k g ≡ g → (x : Name) × Contains xs x × (F x ≡ g)
+    of_map : (F : Name → ℕ) (xs : List Name) (g k : ℕ) → k < length (map F xs) → slice_index_or (map F xs) k g ≡ g
+        → (x : Name) × Contains xs x × (F x ≡ g)
     of_map F [] g k low is = absurd (omega arith)
     of_map F (x ∷ xs) g zero low is = (x, (zero, omega arith, refl), is)
     of_map F (x ∷ xs) g (suc k) low is =
         let rest = of_map F xs g k (omega arith) is in
         (rest.0, (suc rest.1.0, omega (arith, rest.1.1), rest.1.2), rest.2)
 
-    to_map : (F : Name → ℕ) (xs : List Name) (x : Name) (k : ℕ) → k < length xs → slice_index_or xs k x ≡ x → Contains (map F xs) (F x)
+    to_map : (F : Name → ℕ) (xs : List Name) (x : Name) (k : ℕ) → k < length xs → slice_index_or xs k x ≡ x
+        → Contains (map F xs) (F x)
     to_map F [] x k low is = absurd (omega arith)
     to_map F (y ∷ xs) x zero low is = (zero, omega arith, ap F is)
     to_map F (y ∷ xs) x (suc k) low is =
         let rest = to_map F xs x k (omega arith) is in
         (suc rest.0, omega (arith, rest.1), rest.2)
 
-    among : (fs : List Func) (f : Func) (g : ℕ) → Contains (map (callee_number (simple_program fs)) (paths.callees (simple_function f))) g → Contains (map (callee_number fs) (paths.callees f)) g
+    among : (fs : List Func) (f : Func) (g : ℕ)
+        → Contains (map (callee_number (simple_program fs)) (paths.callees (simple_function f))) g
+        → Contains (map (callee_number fs) (paths.callees f)) g
     among fs f g has =
         let x = of_map (callee_number (simple_program fs)) (paths.callees (simple_function f)) g has.0 has.1 has.2 in
         let there = laws.callees f x.0 x.1 in
-        subst (λ n. Contains (map (callee_number fs) (paths.callees f)) n) (sym (same_number fs x.0) ∙ x.2) (to_map (callee_number fs) (paths.callees f) x.0 there.0 there.1 there.2)
+        subst (λ n. Contains (map (callee_number fs) (paths.callees f)) n) (sym (same_number fs x.0) ∙ x.2)
+        (to_map (callee_number fs) (paths.callees f) x.0 there.0 there.1 there.2)
 
-    sized_by : (fs gs : List Func) (qs : List FlatFunc) → AreSized (simple_program fs) (simple_program gs) qs → AreSized fs gs qs
+    sized_by : (fs gs : List Func) (qs : List FlatFunc) → AreSized (simple_program fs) (simple_program gs) qs
+        → AreSized fs gs qs
     sized_by fs [] [] sized = tt
     sized_by fs [] (q ∷ qs) sized = absurd sized
     sized_by fs (g ∷ gs) [] sized = absurd sized
@@ -131,5 +150,7 @@ module _ (laws : Laws)
           sized_by fs gs qs sized.1,
         )
 
-    pub simple-sized : (fs : List Func) → HasNoNameFault fs → IsShaped fs → AreSized fs fs (flat_program first_places (simple_program fs))
-    simple-sized fs sound shaped = sized_by fs fs (flat_program first_places (simple_program fs)) (flat-sized (simple_program fs) (laws.names fs sound) (laws.limits fs shaped))
+    pub simple-sized : (fs : List Func) (qs : List FlatFunc) → HasNoNameFault fs → IsShaped fs
+        → AreFlat (simple_program fs) (simple_program fs) qs → AreSized fs fs qs
+    simple-sized fs qs sound shaped flats =
+        sized_by fs fs qs (flat-sized (simple_program fs) qs flats (laws.names fs sound) (laws.limits fs shaped))

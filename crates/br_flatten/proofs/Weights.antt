@@ -14,6 +14,7 @@ step-some (Expr-F.Op op a b) = omega arith
 step-some (Expr-F.Ite c a b) = omega arith
 
 pub bulk-some : (e : Expr) → 1 ≤ expression_bulk e
-bulk-some = ind-Expr (λ e. 1 ≤ expression_bulk e) (λ x y is. subst (λ n. 1 ≤ n) (sym (fold-roll-Expr ℕ expression_step x)) (step-some (map-Expr Expr ℕ expression_bulk x)))
+bulk-some = ind-Expr (λ e. 1 ≤ expression_bulk e) (λ x y is.
+    subst (λ n. 1 ≤ n) (sym (fold-roll-Expr ℕ expression_step x)) (step-some (map-Expr Expr ℕ expression_bulk x)))
 
 pub ruleset weights = (bulk-some)

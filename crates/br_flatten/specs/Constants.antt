@@ -1,5 +1,6 @@
 -- Which literals are constants of operations.
-use Rattle.std.specs.Prelude.{ℕ, ◌^◌, Bool, true, false, ◌&&◌, Option, Some, None, ℤ, nat_lt, if◌then◌else◌}
+use Rattle.std.specs.Prelude.{ℕ, ◌^◌, Bool, true, false, ◌&&◌, Option}
+use Rattle.std.specs.Prelude.{Some, None, ℤ, nat_lt, if◌then◌else◌}
 use Rattle.br_words.specs.declared.operation.BinOp.{BinOp}
 use Rattle.br_words.specs.declared.operation.BinOp.TheVariants as op
 use Rattle.br_words.specs.Words.{signed}
@@ -8,9 +9,11 @@ use Rattle.br_flatimp.specs.WellFormed.{fits_operation}
 -- the constant that an operation may have in the place of a literal on its right
 abbrev pub constant : BinOp → Option ℕ → Option ℤ
 constant op None = None
-constant op (Some n) = if nat_lt n (2 ^ 32) && fits_operation op (signed n) then Some (signed n) else None
+constant op (Some n) =
+    if nat_lt n (2 ^ 32) && fits_operation op (signed n) then Some (signed n) else None
 
--- Whether an operation may have its operands exchanged. Those that may have no constant are left out.
+-- Whether an operation may have its operands exchanged. Those
+-- that may have no constant are left out.
 abbrev pub commutes : BinOp → Bool
 commutes op.Add = true
 commutes op.And = true

@@ -1,9 +1,12 @@
--- The flat statements of expressions, commands, functions and programs. A variable's number is the place of
--- its name in a list of names; the numbers from the length of that list on are temporaries. Each word of an
--- expression goes to a temporary or straight to the variable that is set, and a variable is used where it is.
--- A literal that an operation may have as a constant is no word, nor is one that is the byte offset of an
--- address, and a comparison that is tested is none, but what the test asks.
-use Rattle.std.specs.Prelude.{ℕ, suc, Bool, true, false, ◌||◌, ◌&&◌, List, [], ◌∷◌, ◌++◌, map, length, Option, Some, None, ℤ, pos, if◌then◌else◌, codes}
+-- The flat statements of expressions, commands, functions and programs. A variable's number is
+-- the place of its name in a list of names. The literals that a function holds come after its
+-- variables, and are set once at its start; the numbers after them are temporaries. Each word
+-- of an expression goes to a temporary or straight to the variable that is set; a variable and
+-- a held literal are used where they are. A literal that an operation may have as a constant
+-- is no word, nor is one that is the byte offset of an address, and a comparison that is
+-- tested is none, but what the test asks.
+use Rattle.std.specs.Prelude.{ℕ, suc, max, Bool, true, false, ◌||◌, ◌&&◌, List, [], ◌∷◌}
+use Rattle.std.specs.Prelude.{◌++◌, map, Option, Some, None, ℤ, pos, if◌then◌else◌, codes}
 use Rattle.std.specs.List.{flat_map, list_all}
 use Rattle.std.specs.Str.{bytes_eq}
 use Rattle.br_words.specs.declared.operation.BinOp.{BinOp}
@@ -22,22 +25,22 @@ use Rattle.br_flatimp.specs.declared.program.Stmt.{Stmt}
 use Rattle.br_flatimp.specs.declared.program.Stmt.TheOpen.{Stmt-F}
 use Rattle.br_flatimp.specs.declared.program.Stmt.TheViews.{roll-Stmt}
 use Rattle.br_flatimp.specs.declared.program.FlatFunc.{FlatFunc}
+pub use Rattle.br_flatimp.specs.Parts.{joined}
 use Rattle.br_flatimp.specs.Parts.{statement_names}
-pub use Rattle.br_flatten.specs.Loops.{above}
-use Rattle.br_flatten.specs.Loops.{loop_of}
+pub use Rattle.br_numbering.specs.Names.{number, is_listed}
+pub use Rattle.br_flatten.specs.Scope.{place, next, unless_variable}
+use Rattle.br_flatten.specs.Scope.{Scope, temporaries, holder, settings}
 use Rattle.br_flatten.specs.Tests.{Test, relation, asks_zero, negation}
 use Rattle.br_flatten.specs.Constants.{constant, left_constant, byte_offset}
 
+-- ---- numbers
+
+-- the least number above those of a list
+abbrev pub above : List ℕ → ℕ
+above [] = 0
+above (x ∷ xs) = max (suc x) (above xs)
+
 -- ---- names
-
--- the place of a name in a list, and the length of the list where it is not there
-abbrev pub number : List Name → Name → ℕ
-number [] x = 0
-number (y ∷ ys) x = if bytes_eq y x then 0 else suc (number ys x)
-
-abbrev pub is_listed : List Name → Name → Bool
-is_listed [] x = false
-is_listed (y ∷ ys) x = bytes_eq y x || is_listed ys x
 
 -- each variable of an expression, of a command or of a function is in a list
 
@@ -62,25 +65,29 @@ abbrev pub lists_command_step : List Name → Cmd-F Bool → Bool
 lists_command_step names Cmd-F.Skip = true
 lists_command_step names (Cmd-F.Set x e) = is_listed names x && lists_expression names e
 lists_command_step names (Cmd-F.Unset x) = true
-lists_command_step names (Cmd-F.Store size a e) = lists_expression names a && lists_expression names e
+lists_command_step names (Cmd-F.Store size a e) =
+    lists_expression names a && lists_expression names e
 lists_command_step names (Cmd-F.Stackalloc x n body) = is_listed names x && list_all (λ ok. ok) body
 lists_command_step names (Cmd-F.If e first second) =
     lists_expression names e && (list_all (λ ok. ok) first && list_all (λ ok. ok) second)
 lists_command_step names (Cmd-F.While e body) = lists_expression names e && list_all (λ ok. ok) body
 lists_command_step names (Cmd-F.Seq body) = list_all (λ ok. ok) body
-lists_command_step names (Cmd-F.Call at xs callee es) = lists_names names xs && lists_expressions names es
-lists_command_step names (Cmd-F.Interact at xs action es) = lists_names names xs && lists_expressions names es
+lists_command_step names (Cmd-F.Call at xs callee es) =
+    lists_names names xs && lists_expressions names es
+lists_command_step names (Cmd-F.Interact at xs action es) =
+    lists_names names xs && lists_expressions names es
 
 abbrev pub lists_command : List Name → Cmd → Bool
 lists_command names = fold-Cmd Bool (lists_command_step names)
 
 abbrev pub lists_function : List Name → Func → Bool
-lists_function names f = lists_names names f.args && (lists_names names f.results && list_all (lists_command names) f.body)
+lists_function names f = lists_names names f.args
+    && (lists_names names f.results && list_all (lists_command names) f.body)
 
 -- ---- expressions
 
--- where the bytes at an address stand: the statements before, the place of a word, the first temporary that is
--- free after it, and a byte offset
+-- where the bytes at an address stand: the statements before, the place of a word, the first
+-- temporary that is free after it, and a byte offset
 pub record Address : Type 0 where
   pub before : List Stmt
   pub at : ℕ
@@ -99,21 +106,6 @@ pub record Flat : Type 0 where
   pub test : ℕ → Test
   -- where the bytes at its word stand, where the temporaries from a number on are free
   pub address : ℕ → Address
-
--- where the word of an operand stands: in its variable, or in the first free temporary
-abbrev pub place : Option ℕ → ℕ → ℕ
-place (Some y) free = y
-place None free = free
-
--- the first temporary that is free after an operand
-abbrev pub next : Option ℕ → ℕ → ℕ
-next (Some y) free = free
-next None free = suc free
-
--- an operand's statements: none where it is a variable
-abbrev pub unless_variable : Option ℕ → List Stmt → List Stmt
-unless_variable (Some y) body = []
-unless_variable None body = body
 
 abbrev pub code : Flat → ℕ → List Stmt
 code e free = unless_variable e.variable (e.into free (suc free))
@@ -150,7 +142,8 @@ compared_test (Some r) into a b = comparison r a b
 
 abbrev pub operation_test : BinOp → (ℕ → ℕ → List Stmt) → Flat → Flat → ℕ → Test
 operation_test op into a b free =
-    if asks_zero op b.literal then negation (a.test free) else compared_test (relation op) into a b free
+    if asks_zero op b.literal then negation b.variable (a.test free)
+    else compared_test (relation op) into a b free
 
 -- the statements of a test with a part for each answer
 abbrev pub branches : Test → List Stmt → List Stmt → List Stmt
@@ -168,7 +161,8 @@ itself variable literal into = record {
 
 -- an operation on an operand and a constant
 abbrev pub with_constant : BinOp → Flat → ℤ → ℕ → ℕ → List Stmt
-with_constant op a c x free = code a free ++ roll-Stmt (Stmt-F.Op x op (place a.variable free) (operand.Const c)) ∷ []
+with_constant op a c x free =
+    code a free ++ roll-Stmt (Stmt-F.Op x op (place a.variable free) (operand.Const c)) ∷ []
 
 -- an operation on two operands
 abbrev pub with_names : BinOp → Flat → Flat → ℕ → ℕ → List Stmt
@@ -197,21 +191,25 @@ by_offsets None (Some c) into a b = moved_address b c
 by_offsets None None into a b = word_address None into
 
 abbrev pub operation_address : BinOp → (ℕ → ℕ → List Stmt) → Flat → Flat → ℕ → Address
-operation_address op into a b = by_offsets (byte_offset op b.literal) (byte_offset op a.literal) into a b
+operation_address op into a b =
+    by_offsets (byte_offset op b.literal) (byte_offset op a.literal) into a b
 
 -- an expression, given the statements of its parts
-abbrev pub expression_step : List Name → Expr-F Flat → Flat
-expression_step names (Expr-F.Literal n) = itself None (Some n) (λ x free. roll-Stmt (Stmt-F.Lit x n) ∷ [])
-expression_step names (Expr-F.Var y) =
-    itself (Some (number names y)) None (λ x free. roll-Stmt (Stmt-F.Copy x (number names y)) ∷ [])
-expression_step names (Expr-F.Load size a) =
+abbrev pub expression_step : Scope → Expr-F Flat → Flat
+expression_step scope (Expr-F.Literal n) =
+    itself (holder scope n) (Some n) (λ x free. roll-Stmt (Stmt-F.Lit x n) ∷ [])
+expression_step scope (Expr-F.Var y) =
+    itself (Some (number scope.names y)) None
+    (λ x free. roll-Stmt (Stmt-F.Copy x (number scope.names y)) ∷ [])
+expression_step scope (Expr-F.Load size a) =
     itself None None (λ x free. load x (a.address free))
   where
     load : ℕ → Address → List Stmt
     load x a = a.before ++ roll-Stmt (Stmt-F.Load x size a.at a.offset) ∷ []
-expression_step names (Expr-F.Table size bytes i) =
-    itself None None (λ x free. code i free ++ roll-Stmt (Stmt-F.Table x size bytes (place i.variable free)) ∷ [])
-expression_step names (Expr-F.Op op a b) =
+expression_step scope (Expr-F.Table size bytes i) =
+    itself None None (λ x free. code i free
+    ++ roll-Stmt (Stmt-F.Table x size bytes (place i.variable free)) ∷ [])
+expression_step scope (Expr-F.Op op a b) =
     record {
       variable = None;
       literal = None;
@@ -219,11 +217,11 @@ expression_step names (Expr-F.Op op a b) =
       test = operation_test op (operation op a b) a b;
       address = operation_address op (operation op a b) a b;
     }
-expression_step names (Expr-F.Ite test a b) =
+expression_step scope (Expr-F.Ite test a b) =
     itself None None (λ x free. branches (test.test free) (a.into x free) (b.into x free))
 
-abbrev pub expression : List Name → Expr → Flat
-expression names = fold-Expr Flat (expression_step names)
+abbrev pub expression : Scope → Expr → Flat
+expression scope = fold-Expr Flat (expression_step scope)
 
 -- operands in turn: their statements, and where their words stand
 
@@ -237,10 +235,8 @@ places_of (e ∷ es) free = place e.variable free ∷ places_of es (next e.varia
 
 -- ---- commands
 
-abbrev pub joined : List (List Stmt) → List Stmt
-joined = flat_map (λ body. body)
-
--- a read or a write of a device word, by the numbers of its variables and the places of its arguments
+-- a read or a write of a device word, by the numbers of its
+-- variables and the places of its arguments
 abbrev pub read_statements : List ℕ → List ℕ → List Stmt
 read_statements (x ∷ []) (y ∷ []) = roll-Stmt (Stmt-F.Read x y) ∷ []
 read_statements xs ys = []
@@ -258,48 +254,54 @@ abbrev pub callee_number : List Func → Name → ℕ
 callee_number fs = number (map (λ f. f.name) fs)
 
 -- a command, given the statements of the commands in it; no temporary is in use between commands
-abbrev pub command_step : List Func → List Name → Cmd-F (List Stmt) → List Stmt
-command_step fs names Cmd-F.Skip = []
-command_step fs names (Cmd-F.Set x e) = (expression names e).into (number names x) (length names)
-command_step fs names (Cmd-F.Unset x) = []
-command_step fs names (Cmd-F.Store size a e) = store ((expression names a).address (length names)) (expression names e)
+abbrev pub command_step : List Func → Scope → Cmd-F (List Stmt) → List Stmt
+command_step fs scope Cmd-F.Skip = []
+command_step fs scope (Cmd-F.Set x e) =
+    (expression scope e).into (number scope.names x) (temporaries scope)
+command_step fs scope (Cmd-F.Unset x) = []
+command_step fs scope (Cmd-F.Store size a e) =
+    store ((expression scope a).address (temporaries scope)) (expression scope e)
   where
     store : Address → Flat → List Stmt
     store a e = a.before ++ (code e a.next ++ roll-Stmt (Stmt-F.Store size a.at (place e.variable a.next) a.offset) ∷ [])
-command_step fs names (Cmd-F.Stackalloc x n body) = roll-Stmt (Stmt-F.Stackalloc (number names x) n (joined body)) ∷ []
-command_step fs names (Cmd-F.If e first second) =
-    branches ((expression names e).test (length names)) (joined first) (joined second)
-command_step fs names (Cmd-F.While e body) = repeats (length names) ((expression names e).test (length names)) (joined body)
+command_step fs scope (Cmd-F.Stackalloc x n body) =
+    roll-Stmt (Stmt-F.Stackalloc (number scope.names x) n (joined body)) ∷ []
+command_step fs scope (Cmd-F.If e first second) =
+    branches ((expression scope e).test (temporaries scope)) (joined first) (joined second)
+command_step fs scope (Cmd-F.While e body) =
+    repeats ((expression scope e).test (temporaries scope)) (joined body)
   where
-    repeats : ℕ → Test → List Stmt → List Stmt
-    repeats free t body = loop_of free t.before t.cond body
-command_step fs names (Cmd-F.Seq body) = joined body
-command_step fs names (Cmd-F.Call at xs callee es) =
-    codes_of (map (expression names) es) (length names)
-    ++ roll-Stmt (Stmt-F.Call (map (number names) xs) (callee_number fs callee) (places_of (map (expression names) es) (length names))) ∷ []
-command_step fs names (Cmd-F.Interact at xs action es) =
-    codes_of (map (expression names) es) (length names)
-    ++ device_statements action (map (number names) xs) (places_of (map (expression names) es) (length names))
+    repeats : Test → List Stmt → List Stmt
+    repeats t body = roll-Stmt (Stmt-F.Loop t.before t.cond body) ∷ []
+command_step fs scope (Cmd-F.Seq body) = joined body
+command_step fs scope (Cmd-F.Call at xs callee es) =
+    codes_of (map (expression scope) es) (temporaries scope)
+    ++ roll-Stmt (Stmt-F.Call (map (number scope.names) xs) (callee_number fs callee)
+    (places_of (map (expression scope) es) (temporaries scope))) ∷ []
+command_step fs scope (Cmd-F.Interact at xs action es) =
+    codes_of (map (expression scope) es) (temporaries scope)
+    ++ device_statements action (map (number scope.names) xs)
+    (places_of (map (expression scope) es) (temporaries scope))
 
 -- the statements of a command
-abbrev pub command : List Func → List Name → Cmd → List Stmt
-command fs names = fold-Cmd (List Stmt) (command_step fs names)
+abbrev pub command : List Func → Scope → Cmd → List Stmt
+command fs scope = fold-Cmd (List Stmt) (command_step fs scope)
 
-abbrev pub commands : List Func → List Name → List Cmd → List Stmt
-commands fs names cs = joined (map (command fs names) cs)
+abbrev pub commands : List Func → Scope → List Cmd → List Stmt
+commands fs scope cs = joined (map (command fs scope) cs)
 
--- ---- functions and programs
+-- ---- functions
 
--- a function of a program, with its names numbered by a list
-abbrev pub flat_function : List Func → List Name → Func → FlatFunc
-flat_function fs names f = record {
+abbrev pub function_body : List Func → Scope → Func → List Stmt
+function_body fs scope f = settings scope ++ commands fs scope f.body
+
+-- a function of a program, in a scope that has its names
+abbrev pub flat_function : List Func → Scope → Func → FlatFunc
+flat_function fs scope f = record {
   name = f.name;
-  args = map (number names) f.args;
-  results = map (number names) f.results;
-  names = above (map (number names) f.args ++ (map (number names) f.results ++ flat_map statement_names (commands fs names f.body)));
-  body = commands fs names f.body;
+  args = map (number scope.names) f.args;
+  results = map (number scope.names) f.results;
+  names = above (map (number scope.names) f.args ++ (map (number scope.names) f.results
+      ++ flat_map statement_names (function_body fs scope f)));
+  body = function_body fs scope f;
 }
-
--- a program, where `listed` gives the names of each function
-abbrev pub flat_program : (Func → List Name) → List Func → List FlatFunc
-flat_program listed fs = map (λ f. flat_function fs (listed f) f) fs

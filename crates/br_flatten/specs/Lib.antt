@@ -1,8 +1,8 @@
+pub mod Scope
 pub mod Tests
 pub mod Constants
-pub mod Loops
 pub mod Flatten
 pub mod Places
-pub mod Numbering
+pub mod Programs
 pub mod Meaning
 pub mod Sized

@@ -9,10 +9,18 @@ use Rattle.br_flatimp.specs.Refines.{Signature, Meaning}
 abbrev pub source_signature : Func → Signature
 source_signature f = record { name = f.name; args = length f.args; results = length f.results }
 
--- the meaning of a program of the source language, whose functions are called from outside by number
+-- the meaning of a program of the source language, whose
+-- functions are called from outside by number
 abbrev pub source_meaning : List Func → Meaning
 source_meaning fs = record {
   signatures = map source_signature fs;
   call = λ g args m answers choices fuel.
-      seen (enter (function_of fs fuel) (slice_get fs g) args (record { locals = no_locals; memory = m; trace = []; answers = answers; choices = choices; fuel = fuel }));
+      seen (enter (function_of fs fuel) (slice_get fs g) args (record {
+        locals = no_locals;
+        memory = m;
+        trace = [];
+        answers = answers;
+        choices = choices;
+        fuel = fuel;
+      }));
 }

@@ -1,5 +1,6 @@
--- The variables of a function in the order of their first place in the text. That order numbers them.
-use Rattle.std.specs.Prelude.{List, [], ◌∷◌, ◌++◌, map, if◌then◌else◌}
+-- The variables of a function in the order of their first place
+-- in the text. That order numbers them.
+use Rattle.std.specs.Prelude.{List, [], ◌∷◌, ◌++◌, map}
 use Rattle.std.specs.List.{flat_map}
 use Rattle.br_syntax.specs.declared.program.Expr.{Expr}
 use Rattle.br_syntax.specs.declared.program.Expr.TheOpen.{Expr-F}
@@ -9,7 +10,7 @@ use Rattle.br_syntax.specs.declared.program.Cmd.TheOpen.{Cmd-F}
 use Rattle.br_syntax.specs.declared.program.Cmd.TheFolds.{fold-Cmd}
 use Rattle.br_syntax.specs.declared.program.Func.{Func}
 use Rattle.br_source_meaning.specs.Values.{Name}
-use Rattle.br_flatten.specs.Flatten.{is_listed}
+pub use Rattle.br_numbering.specs.Names.{with_name, with_names}
 
 -- ---- variables, as often as they stand in the text
 
@@ -36,7 +37,8 @@ command_variables_step (Cmd-F.Set x e) = x ∷ expression_variables e
 command_variables_step (Cmd-F.Unset x) = []
 command_variables_step (Cmd-F.Store size a e) = expression_variables a ++ expression_variables e
 command_variables_step (Cmd-F.Stackalloc x n body) = x ∷ all_of body
-command_variables_step (Cmd-F.If e first second) = expression_variables e ++ (all_of first ++ all_of second)
+command_variables_step (Cmd-F.If e first second) =
+    expression_variables e ++ (all_of first ++ all_of second)
 command_variables_step (Cmd-F.While e body) = expression_variables e ++ all_of body
 command_variables_step (Cmd-F.Seq body) = all_of body
 command_variables_step (Cmd-F.Call at xs callee es) = xs ++ expressions_variables es
@@ -52,14 +54,6 @@ abbrev pub function_variables : Func → List Name
 function_variables f = f.args ++ (f.results ++ commands_variables f.body)
 
 -- ---- names in the order of their first place
-
--- a name that is not in a list goes to its end
-abbrev pub with_name : List Name → Name → List Name
-with_name names x = if is_listed names x then names else names ++ x ∷ []
-
-abbrev pub with_names : List Name → List Name → List Name
-with_names names [] = names
-with_names names (x ∷ xs) = with_names (with_name names x) xs
 
 abbrev pub first_places : Func → List Name
 first_places f = with_names [] (function_variables f)

@@ -1,5 +1,6 @@
--- Tests of flat statements: what an operation compares, and the test that holds where another does not.
-use Rattle.std.specs.Prelude.{ℕ, suc, Bool, false, List, [], ◌∷◌, ◌++◌, Option, Some, None, ◌==◌}
+-- Tests of flat statements: what an operation compares, and the
+-- test that holds where another does not.
+use Rattle.std.specs.Prelude.{ℕ, List, [], ◌∷◌, ◌++◌, Option, Some, None}
 use Rattle.br_words.specs.declared.operation.BinOp.{BinOp}
 use Rattle.br_words.specs.declared.operation.BinOp.TheVariants as op
 use Rattle.br_flatimp.specs.declared.program.Rel.{Rel}
@@ -9,6 +10,8 @@ use Rattle.br_flatimp.specs.declared.program.Cond.TheVariants.{NonZero, Compare}
 use Rattle.br_flatimp.specs.declared.program.Stmt.{Stmt}
 use Rattle.br_flatimp.specs.declared.program.Stmt.TheOpen.{Stmt-F}
 use Rattle.br_flatimp.specs.declared.program.Stmt.TheViews.{roll-Stmt}
+pub use Rattle.br_simplify.specs.Simple.{asks_zero}
+use Rattle.br_flatten.specs.Scope.{place, next, unless_variable}
 
 -- the statements before a test, the test, and the first temporary that is free after it
 pub record Test : Type 0 where
@@ -42,44 +45,26 @@ opposite rel.Ges = rel.Lts
 opposite rel.Ltu = rel.Geu
 opposite rel.Geu = rel.Ltu
 
--- whether an operation with this literal on its right asks whether the word on its left is 0
-abbrev pub asks_zero : BinOp → Option ℕ → Bool
-asks_zero op.Eq None = false
-asks_zero op.Eq (Some n) = n == 0
-asks_zero op.Lts right = false
-asks_zero op.Ltu right = false
-asks_zero op.Add right = false
-asks_zero op.Sub right = false
-asks_zero op.Mul right = false
-asks_zero op.Mulhuu right = false
-asks_zero op.Divu right = false
-asks_zero op.Remu right = false
-asks_zero op.And right = false
-asks_zero op.Or right = false
-asks_zero op.Xor right = false
-asks_zero op.Sru right = false
-asks_zero op.Slu right = false
-asks_zero op.Srs right = false
-
 -- ---- the test that holds where another does not
 
--- a comparison is turned round, and a word is compared with 0 in the first free temporary
+-- A comparison is turned round. A word is compared with 0, which stands in the name that holds it,
+-- where there is one, or else in the first free temporary.
 
-abbrev pub zero_before : Cond → ℕ → List Stmt
-zero_before (Compare r y z) free = []
-zero_before (NonZero y) free = roll-Stmt (Stmt-F.Lit free 0) ∷ []
+abbrev pub zero_before : Option ℕ → Cond → ℕ → List Stmt
+zero_before zero (Compare r y z) free = []
+zero_before zero (NonZero y) free = unless_variable zero (roll-Stmt (Stmt-F.Lit free 0) ∷ [])
 
-abbrev pub turned : Cond → ℕ → Cond
-turned (Compare r y z) free = Compare (opposite r) y z
-turned (NonZero y) free = Compare rel.Eq y free
+abbrev pub turned : Option ℕ → Cond → ℕ → Cond
+turned zero (Compare r y z) free = Compare (opposite r) y z
+turned zero (NonZero y) free = Compare rel.Eq y (place zero free)
 
-abbrev pub next_turned : Cond → ℕ → ℕ
-next_turned (Compare r y z) free = free
-next_turned (NonZero y) free = suc free
+abbrev pub next_turned : Option ℕ → Cond → ℕ → ℕ
+next_turned zero (Compare r y z) free = free
+next_turned zero (NonZero y) free = next zero free
 
-abbrev pub negation : Test → Test
-negation t = record {
-  before = t.before ++ zero_before t.cond t.next;
-  cond = turned t.cond t.next;
-  next = next_turned t.cond t.next;
+abbrev pub negation : Option ℕ → Test → Test
+negation zero t = record {
+  before = t.before ++ zero_before zero t.cond t.next;
+  cond = turned zero t.cond t.next;
+  next = next_turned zero t.cond t.next;
 }

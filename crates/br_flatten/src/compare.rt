@@ -1,7 +1,8 @@
 // Tests: how operations compare their words, and the test that holds where another does not.
 
 ghost use Rattle.std.specs.Prelude.{◌≡◌, ◌<◌, ◌≤◌, ◌+◌, ◌++◌, IfOk, OnOk};
-ghost use Rattle.br_flatten.specs.Tests.{asks_zero, next_turned, opposite, relation, turned, zero_before};
+ghost use Rattle.br_flatimp.specs.declared.program.Cond.TheVariants.{NonZero};
+ghost use Rattle.br_flatten.specs.Tests.{next_turned, opposite, relation, turned, zero_before};
 
 use br_base::NoMemory;
 use br_flatimp::{Cond, Rel, Stmt};
@@ -28,21 +29,6 @@ pub(crate) fn relation(op: BinOp) -> Option<Rel>
     }
 }
 
-/// Whether an operation with this literal on its right asks whether the word on its left is 0.
-pub(crate) fn asks_zero(op: BinOp, right: Option<u32>) -> bool
-    ensures { result ≡ asks_zero op right }
-{
-    match op {
-        BinOp::Eq => match right {
-            Some(n) => n == 0,
-            None => false,
-        },
-        BinOp::Lts | BinOp::Ltu | BinOp::Add | BinOp::Sub | BinOp::Mul => false,
-        BinOp::Mulhuu | BinOp::Divu | BinOp::Remu | BinOp::And | BinOp::Or => false,
-        BinOp::Xor | BinOp::Sru | BinOp::Slu | BinOp::Srs => false,
-    }
-}
-
 fn opposite(rel: Rel) -> Rel
     ensures { result ≡ opposite rel }
 {
@@ -56,12 +42,17 @@ fn opposite(rel: Rel) -> Rel
     }
 }
 
-/// The test that holds where another does not, with the statements that it needs.
-pub(crate) fn negation(t: Tested, out: &mut Items<Stmt>) -> Result<Tested, NoMemory>
+/// The test that holds where another does not, with the statements that it needs,
+/// where a name may hold the literal 0.
+pub(crate) fn negation(
+    t: Tested,
+    zero: Option<u32>,
+    out: &mut Items<Stmt>,
+) -> Result<Tested, NoMemory>
     requires { t.next < 4294967295 }
-    ensures before { OnOk result (out.new ≡ out.old ++ zero_before t.cond t.next) }
-    ensures cond { IfOk result (λ q. q.cond ≡ turned t.cond t.next) }
-    ensures next { IfOk result (λ q. q.next ≡ next_turned t.cond t.next) }
+    ensures before { OnOk result (out.new ≡ out.old ++ zero_before zero t.cond t.next) }
+    ensures cond { IfOk result (λ q. q.cond ≡ turned zero t.cond t.next) }
+    ensures next { IfOk result (λ q. q.next ≡ next_turned zero t.cond t.next) }
     ensures room { IfOk result (λ q. q.next ≤ t.next + 1) }
 {
     match t.cond {
@@ -69,12 +60,32 @@ pub(crate) fn negation(t: Tested, out: &mut Items<Stmt>) -> Result<Tested, NoMem
             cond: Cond::Compare(opposite(rel), y, z),
             next: t.next,
         }),
-        Cond::NonZero(y) => {
-            out.push(Stmt::Lit(t.next, 0))?;
-            Ok(Tested {
-                cond: Cond::Compare(Rel::Eq, y, t.next),
-                next: t.next + 1,
-            })
-        }
+        Cond::NonZero(y) => compared_with_zero(y, t.next, zero, out),
     }
+}
+
+// The test whether a word is 0, where the temporaries from a number on are free.
+fn compared_with_zero(
+    y: u32,
+    free: u32,
+    zero: Option<u32>,
+    out: &mut Items<Stmt>,
+) -> Result<Tested, NoMemory>
+    requires { free < 4294967295 }
+    ensures before { OnOk result (out.new ≡ out.old ++ zero_before zero (NonZero y) free) }
+    ensures cond { IfOk result (λ q. q.cond ≡ turned zero (NonZero y) free) }
+    ensures next { IfOk result (λ q. q.next ≡ next_turned zero (NonZero y) free) }
+    ensures room { IfOk result (λ q. q.next ≤ free + 1) }
+{
+    if let Some(z) = zero {
+        return Ok(Tested {
+            cond: Cond::Compare(Rel::Eq, y, z),
+            next: free,
+        });
+    }
+    out.push(Stmt::Lit(free, 0))?;
+    Ok(Tested {
+        cond: Cond::Compare(Rel::Eq, y, free),
+        next: free + 1,
+    })
 }

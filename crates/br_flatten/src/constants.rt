@@ -1,9 +1,9 @@
 // Which literals are constants of operations.
 
 ghost use Rattle.std.specs.Prelude.{◌≡◌};
-ghost use Rattle.br_flatimp.specs.WellFormed.{fits_operation};
 ghost use Rattle.br_flatten.specs.Constants.{byte_offset, commutes, constant, left_constant};
 
+use br_flatimp::constant_fits;
 use br_words::BinOp;
 
 /// The constant that an operation may have in the place of a literal on its right.
@@ -13,7 +13,7 @@ pub(crate) fn constant(op: BinOp, literal: Option<u32>) -> Option<i32>
     match literal {
         Some(n) => {
             let c = n.cast_signed();
-            if fits(op, c) { Some(c) } else { None }
+            if constant_fits(op, c) { Some(c) } else { None }
         }
         None => None,
     }
@@ -39,18 +39,6 @@ pub(crate) fn byte_offset(op: BinOp, literal: Option<u32>) -> Option<i32>
         BinOp::Sub | BinOp::Mul | BinOp::Mulhuu | BinOp::Divu | BinOp::Remu => None,
         BinOp::And | BinOp::Or | BinOp::Xor | BinOp::Sru | BinOp::Slu | BinOp::Srs => None,
         BinOp::Lts | BinOp::Ltu | BinOp::Eq => None,
-    }
-}
-
-fn fits(op: BinOp, c: i32) -> bool
-    ensures { result ≡ fits_operation op c }
-{
-    match op {
-        BinOp::Add | BinOp::And | BinOp::Or | BinOp::Xor | BinOp::Lts | BinOp::Ltu | BinOp::Eq =>
-            -2048 <= c && c <= 2047,
-        BinOp::Sub => -2047 <= c && c <= 2048,
-        BinOp::Sru | BinOp::Slu | BinOp::Srs => 0 <= c && c <= 31,
-        BinOp::Mul | BinOp::Mulhuu | BinOp::Divu | BinOp::Remu => false,
     }
 }
 

@@ -1,10 +1,10 @@
-// The count of a function's names: the least number above each of them. A number past the type's end
-// is given as the type's end.
+// The count of a function's names: the least number above each of them. A number past the
+// type's end is given as the type's end.
 
 ghost use Rattle.std.specs.Prelude.{◌≡◌, min};
 ghost use Rattle.std.specs.List.{flat_map};
 ghost use Rattle.br_flatimp.specs.Parts.{operand_names, statement_names, test_names};
-ghost use Rattle.br_flatten.specs.Loops.{above};
+ghost use Rattle.br_flatten.specs.Flatten.{above};
 
 use br_flatimp::{Cond, Operand, Stmt};
 

@@ -6,14 +6,15 @@
 mod compare;
 mod constants;
 mod flattening;
+mod held;
 mod highest;
 mod laws;
-mod loops;
-mod numbering;
 mod operands;
 mod places;
 mod scope;
 mod statements;
+mod units;
+mod uses;
 
 pub use flattening::flatten;
 pub use laws::flat_programs_refine;

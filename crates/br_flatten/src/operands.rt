@@ -2,14 +2,15 @@
 
 ghost use Rattle.std.specs.Prelude.{◌≡◌, ◌≤◌, ◌+◌, ◌++◌, map, IfOk, OnOk};
 ghost use Rattle.br_flatten.specs.Flatten.{code, codes_of, expression, next, place, places_of};
-ghost use Rattle.br_flatten.specs.Numbering.{listed};
+ghost use Rattle.br_flatten.specs.Scope.{scoped};
 ghost use Rattle.br_measure.specs.Bulk.{expression_bulk, expressions_bulk};
 
-use crate::compare::{Tested, asks_zero, negation, relation};
+use crate::compare::{Tested, negation, relation};
 use crate::constants::{byte_offset, constant, left_constant};
 use crate::scope::Scope;
 use br_base::NoMemory;
 use br_flatimp::{Cond, Operand, Stmt};
+use br_simplify::asks_zero;
 use br_syntax::Expr;
 use sqlite_items::Items;
 
@@ -31,7 +32,8 @@ pub(crate) fn into(
     out: &mut Items<Stmt>,
 ) -> Result<(), NoMemory>
     requires { free + expression_bulk e.now ≤ 4294967296 }
-    ensures { OnOk result (out.new ≡ out.old ++ (expression (listed scope.now.variables.now.names) e.now).into x free) }
+    ensures { OnOk result (out.new ≡ out.old ++
+        (expression (scoped scope.now.variables.now scope.now.held.now) e.now).into x free) }
 {
     match e {
         Expr::Literal(n) => {
@@ -91,10 +93,14 @@ pub(crate) fn address(
     out: &mut Items<Stmt>,
 ) -> Result<Addressed, NoMemory>
     requires { free + expression_bulk e.now ≤ 4294967295 }
-    ensures before { OnOk result (out.new ≡ out.old ++ ((expression (listed scope.now.variables.now.names) e.now).address free).before) }
-    ensures at { IfOk result (λ a. a.at ≡ ((expression (listed scope.now.variables.now.names) e.now).address free).at) }
-    ensures next { IfOk result (λ a. a.next ≡ ((expression (listed scope.now.variables.now.names) e.now).address free).next) }
-    ensures offset { IfOk result (λ a. a.offset ≡ ((expression (listed scope.now.variables.now.names) e.now).address free).offset) }
+    ensures before { OnOk result (out.new ≡ out.old ++ ((expression
+        (scoped scope.now.variables.now scope.now.held.now) e.now).address free).before) }
+    ensures at { IfOk result (λ a. a.at ≡ ((expression
+        (scoped scope.now.variables.now scope.now.held.now) e.now).address free).at) }
+    ensures next { IfOk result (λ a. a.next ≡ ((expression
+        (scoped scope.now.variables.now scope.now.held.now) e.now).address free).next) }
+    ensures offset { IfOk result (λ a. a.offset ≡ ((expression
+        (scoped scope.now.variables.now scope.now.held.now) e.now).address free).offset) }
     ensures room { IfOk result (λ a. a.next ≤ free + expression_bulk e.now) }
 {
     if let Expr::Op(op, a, b) = e {
@@ -123,8 +129,8 @@ pub(crate) fn address(
     })
 }
 
-/// Adds the statements of an operand: none where it is a variable, and else those that set the first
-/// free temporary to its word.
+/// Adds the statements of an operand: none where it is a variable or a held literal, and else
+/// those that set the first free temporary to its word.
 #[cycle(expression)]
 #[tactic(auto, using(crate::proofs::Weights::weights))]
 pub(crate) fn operand(
@@ -134,16 +140,16 @@ pub(crate) fn operand(
     out: &mut Items<Stmt>,
 ) -> Result<Placed, NoMemory>
     requires { free + expression_bulk e.now ≤ 4294967295 }
-    ensures code { OnOk result (out.new ≡ out.old ++ code (expression (listed scope.now.variables.now.names) e.now) free) }
-    ensures at { IfOk result (λ p. p.at ≡ place (expression (listed scope.now.variables.now.names) e.now).variable free) }
-    ensures next { IfOk result (λ p. p.next ≡ next (expression (listed scope.now.variables.now.names) e.now).variable free) }
+    ensures code { OnOk result (out.new ≡ out.old
+        ++ code (expression (scoped scope.now.variables.now scope.now.held.now) e.now) free) }
+    ensures at { IfOk result (λ p. p.at ≡ place (expression
+        (scoped scope.now.variables.now scope.now.held.now) e.now).variable free) }
+    ensures next { IfOk result (λ p. p.next ≡ next (expression
+        (scoped scope.now.variables.now scope.now.held.now) e.now).variable free) }
     ensures room { IfOk result (λ p. p.next ≤ free + expression_bulk e.now) }
 {
-    if let Expr::Var(y) = e {
-        return Ok(Placed {
-            at: scope.variable(y),
-            next: free,
-        });
+    if let Some(at) = scope.named(e) {
+        return Ok(Placed { at, next: free });
     }
     into(scope, e, free, free + 1, out)?;
     Ok(Placed {
@@ -161,15 +167,18 @@ pub(crate) fn tested(
     out: &mut Items<Stmt>,
 ) -> Result<Tested, NoMemory>
     requires { free + expression_bulk e.now ≤ 4294967295 }
-    ensures before { OnOk result (out.new ≡ out.old ++ ((expression (listed scope.now.variables.now.names) e.now).test free).before) }
-    ensures cond { IfOk result (λ t. t.cond ≡ ((expression (listed scope.now.variables.now.names) e.now).test free).cond) }
-    ensures next { IfOk result (λ t. t.next ≡ ((expression (listed scope.now.variables.now.names) e.now).test free).next) }
+    ensures before { OnOk result (out.new ≡ out.old ++ ((expression
+        (scoped scope.now.variables.now scope.now.held.now) e.now).test free).before) }
+    ensures cond { IfOk result (λ t. t.cond ≡ ((expression
+        (scoped scope.now.variables.now scope.now.held.now) e.now).test free).cond) }
+    ensures next { IfOk result (λ t. t.next ≡ ((expression
+        (scoped scope.now.variables.now scope.now.held.now) e.now).test free).next) }
     ensures room { IfOk result (λ t. t.next ≤ free + expression_bulk e.now) }
 {
     if let Expr::Op(op, a, b) = e {
         if asks_zero(*op, scope.literal(b.get())) {
             let asked = tested(scope, a.get(), free, out)?;
-            return negation(asked, out);
+            return negation(asked, scope.named(b.get()), out);
         }
         if let Some(rel) = relation(*op) {
             let first = operand(scope, a.get(), free, out)?;
@@ -195,8 +204,10 @@ pub(crate) fn operands(
     out: &mut Items<Stmt>,
 ) -> Result<Items<u32>, NoMemory>
     requires { free + expressions_bulk es.now ≤ 4294967295 }
-    ensures codes { OnOk result (out.new ≡ out.old ++ codes_of (map (expression (listed scope.now.variables.now.names)) es.now) free) }
-    ensures places { IfOk result (λ ys. ys ≡ places_of (map (expression (listed scope.now.variables.now.names)) es.now) free) }
+    ensures codes { OnOk result (out.new ≡ out.old ++ codes_of
+        (map (expression (scoped scope.now.variables.now scope.now.held.now)) es.now) free) }
+    ensures places { IfOk result (λ ys. ys ≡ places_of
+        (map (expression (scoped scope.now.variables.now scope.now.held.now)) es.now) free) }
 {
     let mut places = Items::new(scope.alloc);
     let mut free = free;

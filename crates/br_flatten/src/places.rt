@@ -1,18 +1,19 @@
 // The variables of a function, numbered in the order of their first place.
 
 ghost use Rattle.std.specs.Prelude.{◌≡◌, OnOk, IfOk};
-ghost use Rattle.br_flatten.specs.Numbering.{listed};
-ghost use Rattle.br_flatten.specs.Places.{command_variables, commands_variables, expression_variables, expressions_variables, first_places, with_names};
+ghost use Rattle.br_flatten.specs.Places.{command_variables, commands_variables};
+ghost use Rattle.br_flatten.specs.Places.{expression_variables, expressions_variables};
+ghost use Rattle.br_flatten.specs.Places.{first_places, with_names};
 
-use crate::numbering::Numbering;
 use br_base::NoMemory;
+use br_numbering::Numbering;
 use br_syntax::{Cmd, Expr, Func};
 use std::alloc::Global;
 
 /// The variables of a function.
 #[tactic(auto, using(crate::proofs::VariableParts::variables))]
 pub(crate) fn first_places(alloc: Global, f: &Func) -> Result<Numbering, NoMemory>
-    ensures { IfOk result (λ n. listed n.names ≡ first_places f.now) }
+    ensures { IfOk result (λ n. n ≡ first_places f.now) }
 {
     let mut names = Numbering::new(alloc);
     names.add_all(f.args.as_slice())?;
@@ -24,7 +25,8 @@ pub(crate) fn first_places(alloc: Global, f: &Func) -> Result<Numbering, NoMemor
 #[cycle(places)]
 #[tactic(auto, using(crate::proofs::VariableParts::variables))]
 fn commands<'a>(cs: &'a [Cmd], names: &mut Numbering<'a>) -> Result<(), NoMemory>
-    ensures { OnOk result (listed names.new.names ≡ with_names (listed names.old.names) (commands_variables cs.now)) }
+    ensures { OnOk result
+        (names.new ≡ with_names names.old (commands_variables cs.now)) }
 {
     for c in cs {
         command(c, names)?;
@@ -35,12 +37,13 @@ fn commands<'a>(cs: &'a [Cmd], names: &mut Numbering<'a>) -> Result<(), NoMemory
 #[cycle(places)]
 #[tactic(auto, using(crate::proofs::VariableParts::variables))]
 fn command<'a>(c: &'a Cmd, names: &mut Numbering<'a>) -> Result<(), NoMemory>
-    ensures { OnOk result (listed names.new.names ≡ with_names (listed names.old.names) (command_variables c.now)) }
+    ensures { OnOk result
+        (names.new ≡ with_names names.old (command_variables c.now)) }
 {
     match c {
         Cmd::Skip | Cmd::Unset(_) => Ok(()),
         Cmd::Set(x, e) => {
-            names.add(x)?;
+            names.add(x.bytes())?;
             expression(e, names)
         }
         Cmd::Store(_, a, e) => {
@@ -48,7 +51,7 @@ fn command<'a>(c: &'a Cmd, names: &mut Numbering<'a>) -> Result<(), NoMemory>
             expression(e, names)
         }
         Cmd::Stackalloc(x, _, body) => {
-            names.add(x)?;
+            names.add(x.bytes())?;
             commands(body.as_slice(), names)
         }
         Cmd::If(e, first, second) => {
@@ -70,7 +73,8 @@ fn command<'a>(c: &'a Cmd, names: &mut Numbering<'a>) -> Result<(), NoMemory>
 
 #[tactic(auto, using(crate::proofs::VariableParts::variables))]
 fn expressions<'a>(es: &'a [Expr], names: &mut Numbering<'a>) -> Result<(), NoMemory>
-    ensures { OnOk result (listed names.new.names ≡ with_names (listed names.old.names) (expressions_variables es.now)) }
+    ensures { OnOk result (names.new
+        ≡ with_names names.old (expressions_variables es.now)) }
 {
     for e in es {
         expression(e, names)?;
@@ -80,11 +84,15 @@ fn expressions<'a>(es: &'a [Expr], names: &mut Numbering<'a>) -> Result<(), NoMe
 
 #[tactic(auto, using(crate::proofs::VariableParts::variables))]
 fn expression<'a>(e: &'a Expr, names: &mut Numbering<'a>) -> Result<(), NoMemory>
-    ensures { OnOk result (listed names.new.names ≡ with_names (listed names.old.names) (expression_variables e.now)) }
+    ensures { OnOk result (names.new
+        ≡ with_names names.old (expression_variables e.now)) }
 {
     match e {
         Expr::Literal(_) => Ok(()),
-        Expr::Var(x) => names.add(x),
+        Expr::Var(x) => {
+            names.add(x.bytes())?;
+            Ok(())
+        }
         Expr::Load(_, a) | Expr::Table(_, _, a) => expression(a.get(), names),
         Expr::Op(_, a, b) => {
             expression(a.get(), names)?;

@@ -1,11 +1,12 @@
 // The statements of commands.
 
-ghost use Rattle.std.specs.Prelude.{◌≡◌, ◌≤◌, ◌+◌, ◌++◌, length, OnOk};
-ghost use Rattle.br_flatten.specs.Flatten.{command, commands, device_statements, read_statements, write_statements};
-ghost use Rattle.br_flatten.specs.Numbering.{listed};
+ghost use Rattle.std.specs.Prelude.{◌≡◌, ◌≤◌, ◌+◌, ◌++◌, OnOk};
+ghost use Rattle.br_flatten.specs.Flatten.{command, commands, device_statements};
+ghost use Rattle.br_flatten.specs.Flatten.{read_statements, write_statements};
+ghost use Rattle.br_flatten.specs.Scope.{scoped};
+ghost use Rattle.br_flatten.specs.Scope.{settings, temporaries};
 ghost use Rattle.br_measure.specs.Bulk.{command_bulk, commands_bulk};
 
-use crate::loops::repeat;
 use crate::operands::{address, into, operand, operands, tested};
 use crate::scope::Scope;
 use br_base::{Name, NoMemory};
@@ -13,11 +14,26 @@ use br_flatimp::Stmt;
 use br_syntax::Cmd;
 use sqlite_items::Items;
 
+/// Adds the statements that set the literals that a function holds.
+pub(crate) fn settings(scope: &Scope, out: &mut Items<Stmt>) -> Result<(), NoMemory>
+    ensures { OnOk result
+        (out.new ≡ out.old ++ settings (scoped scope.now.variables.now scope.now.held.now)) }
+{
+    let mut number = scope.variables.len() as u32;
+    for n in scope.held {
+        out.push(Stmt::Lit(number, *n))?;
+        number += 1;
+    }
+    Ok(())
+}
+
 /// Adds the statements of commands in turn.
 #[cycle(command)]
 pub(crate) fn commands(scope: &Scope, cs: &[Cmd], out: &mut Items<Stmt>) -> Result<(), NoMemory>
-    requires { length (listed scope.now.variables.now.names) + commands_bulk cs.now ≤ 4294967295 }
-    ensures { OnOk result (out.new ≡ out.old ++ commands scope.now.functions.now.funcs.now (listed scope.now.variables.now.names) cs.now) }
+    requires { temporaries (scoped scope.now.variables.now scope.now.held.now)
+        + commands_bulk cs.now ≤ 4294967295 }
+    ensures { OnOk result (out.new ≡ out.old ++ commands scope.now.functions.now.funcs.now
+        (scoped scope.now.variables.now scope.now.held.now) cs.now) }
 {
     for c in cs {
         command(scope, c, out)?;
@@ -27,8 +43,10 @@ pub(crate) fn commands(scope: &Scope, cs: &[Cmd], out: &mut Items<Stmt>) -> Resu
 
 #[cycle(command)]
 fn command(scope: &Scope, c: &Cmd, out: &mut Items<Stmt>) -> Result<(), NoMemory>
-    requires { length (listed scope.now.variables.now.names) + command_bulk c.now ≤ 4294967295 }
-    ensures { OnOk result (out.new ≡ out.old ++ command scope.now.functions.now.funcs.now (listed scope.now.variables.now.names) c.now) }
+    requires { temporaries (scoped scope.now.variables.now scope.now.held.now)
+        + command_bulk c.now ≤ 4294967295 }
+    ensures { OnOk result (out.new ≡ out.old ++ command scope.now.functions.now.funcs.now
+        (scoped scope.now.variables.now scope.now.held.now) c.now) }
 {
     let free = scope.temporaries();
     match c {
@@ -59,7 +77,7 @@ fn command(scope: &Scope, c: &Cmd, out: &mut Items<Stmt>) -> Result<(), NoMemory
             let test = tested(scope, e, free, &mut first)?;
             let mut body = Items::new(scope.alloc);
             commands(scope, inner.as_slice(), &mut body)?;
-            repeat(free, first, test.cond, body, out)?;
+            out.push(Stmt::Loop(first, test.cond, body))?;
         }
         Cmd::Seq(body) => {
             commands(scope, body.as_slice(), out)?;

@@ -1,5 +1,6 @@
 -- What reading a piece of a line answers.
-use Rattle.std.proofs.Common.{◌≡◌, ℕ, ◌+◌, ◌-◌, ◌*◌, ◌^◌, ◌<◌, ◌≤◌, List, [], ◌∷◌, refl, ap, sym, ◌∙◌, arith, subst, length, Ok, Option, Some, None, drop, get_or}
+use Rattle.std.proofs.Common.{◌≡◌, ℕ, ◌+◌, ◌-◌, ◌*◌, ◌^◌, ◌<◌, ◌≤◌, List, [], ◌∷◌, refl, ap, sym}
+use Rattle.std.proofs.Common.{◌∙◌, arith, subst, length, Ok, Option, Some, None, drop, get_or}
 use Rattle.std.specs.Prelude.{IfNone, All, ◌%◌, ◌/◌}
 use Rattle.std.proofs.Common.{inl, inr}
 use Rattle.std.proofs.lemmas.Bool.{cases_lt}
@@ -29,14 +30,17 @@ four_bytes a b c d =
     let ba : a % 256 < 256 = omega arith in let bb : b % 256 < 256 = omega arith in
     let bc : c % 256 < 256 = omega arith in let bd : d % 256 < 256 = omega arith in
     let all : All P (a % 256 ∷ b % 256 ∷ c % 256 ∷ d % 256 ∷ []) =
-    All-cons P (a % 256) (b % 256 ∷ c % 256 ∷ d % 256 ∷ []) ba (All-cons P (b % 256) (c % 256 ∷ d % 256 ∷ []) bb (All-cons P (c % 256) (d % 256 ∷ []) bc (All-cons P (d % 256) [] bd (All-nil P)))) in
+    All-cons P (a % 256) (b % 256 ∷ c % 256 ∷ d % 256 ∷ []) ba (All-cons P (b % 256) (c % 256 ∷ d % 256 ∷ []) bb
+    (All-cons P (c % 256) (d % 256 ∷ []) bc (All-cons P (d % 256) [] bd (All-nil P)))) in
     λ i. elim (cases_lt i 4) [
       | inl low ↦ all i 0 low
-      | inr high ↦ let past : get_or (a % 256 ∷ b % 256 ∷ c % 256 ∷ d % 256 ∷ []) i 0 ≡ 0 = get_or_past (a % 256 ∷ b % 256 ∷ c % 256 ∷ d % 256 ∷ []) i 0 high in rw past (omega arith)
+      | inr high ↦ let past : get_or (a % 256 ∷ b % 256 ∷ c % 256 ∷ d % 256 ∷ []) i 0 ≡ 0 =
+          get_or_past (a % 256 ∷ b % 256 ∷ c % 256 ∷ d % 256 ∷ []) i 0 high in rw past (omega arith)
     ]
 
 -- the eight digits of a word are read as its bytes
-pub decode-word : (digits : List ℕ) (w : ℕ) → w < 2 ^ 32 → digits ≡ word_text w → decode_sized digits 4 ≡ Ok (to_be_bytes w32 w)
+pub decode-word : (digits : List ℕ) (w : ℕ) → w < 2 ^ 32 → digits ≡ word_text w
+    → decode_sized digits 4 ≡ Ok (to_be_bytes w32 w)
 decode-word digits w small e =
     let bytes : IsBytes (to_be_bytes w32 w) = four_bytes (w / 16777216) (w / 65536) (w / 256) w in
     rw (e ∙ sym (encode_lower-word w small)) (decode_sized-encode_lower (to_be_bytes w32 w) 4 refl bytes)
@@ -55,7 +59,8 @@ DigitsRead-none ds = record { value = refl; front = λ h. h; back = λ h. h }
 digit_value-of : (d : ℕ) → 48 ≤ d → d ≤ 57 → digit_value d ≡ d - 48
 digit_value-of d low high = grind (arith, nat_tests)
 
-pub DigitsRead-more : (ds : List ℕ) (i v : ℕ) → i < length ds → 48 ≤ get_or ds i 0 → get_or ds i 0 ≤ 57 → DigitsRead ds i v
+pub DigitsRead-more : (ds : List ℕ) (i v : ℕ) → i < length ds → 48 ≤ get_or ds i 0 → get_or ds i 0 ≤ 57
+    → DigitsRead ds i v
     → DigitsRead ds (i + 1) (v * 10 + (get_or ds i 0 - 48))
 DigitsRead-more ds i v within low high h =
     let d = get_or ds i 0 in
@@ -78,14 +83,16 @@ value_after-grows v [] = omega arith
 value_after-grows v (d ∷ ds) = let more = value_after-grows (v * 10 + digit_value d) ds in omega arith
 
 -- a number that is too large stays so
-pub too_large : (ds : List ℕ) (i v most : ℕ) → i < length ds → 48 ≤ get_or ds i 0 → get_or ds i 0 ≤ 57 → DigitsRead ds i v
+pub too_large : (ds : List ℕ) (i v most : ℕ) → i < length ds → 48 ≤ get_or ds i 0 → get_or ds i 0 ≤ 57
+    → DigitsRead ds i v
     → most < v * 10 + (get_or ds i 0 - 48) → most < digits_value 10 ds
 too_large ds i v most within low high h above =
     let more = (DigitsRead-more ds i v within low high h).value in
     let grows = value_after-grows (v * 10 + (get_or ds i 0 - 48)) (drop (i + 1) ds) in
     omega arith
 
-pub digit_there : (ds : List ℕ) (i : ℕ) → i < length ds → AllDigits 10 (drop i ds) → (48 ≤ get_or ds i 0) × (get_or ds i 0 ≤ 57)
+pub digit_there : (ds : List ℕ) (i : ℕ) → i < length ds → AllDigits 10 (drop i ds)
+    → (48 ≤ get_or ds i 0) × (get_or ds i 0 ≤ 57)
 digit_there ds i within h =
     let P : List ℕ → Type 0 = λ t. AllDigits 10 t in
     digit_from_value (get_or ds i 0) (subst P (drop-cons ds i 0 within) h).0
@@ -94,7 +101,8 @@ own : IsNumeralModel (AllDigits 10) (digits_value 10)
 own = numerals_by_value (AllDigits 10) tells_digits
 
 -- digits with no zero before them are the text of their number
-pub decimal-read : (ds : List ℕ) (n : ℕ) → AllDigits 10 ds → 0 < length ds → (get_or ds 0 0 ≡ 48 → length ds ≡ 1) → digits_value 10 ds ≡ n → n < 2 ^ 64 → ds ≡ decimal n
+pub decimal-read : (ds : List ℕ) (n : ℕ) → AllDigits 10 ds → 0 < length ds → (get_or ds 0 0 ≡ 48 → length ds ≡ 1)
+    → digits_value 10 ds ≡ n → n < 2 ^ 64 → ds ≡ decimal n
 decimal-read ds n all some zero value small =
     sym (subst (λ k. decimal k ≡ ds) value (decimal-digits_value own ds all some zero (rw value small)))
 
@@ -104,12 +112,14 @@ pub decimal_some : (ds : List ℕ) (n most : ℕ) → most < 2 ^ 32 → n ≤ mo
 decimal_some ds n most small below e =
     rw e (decimal_is_IsNumeral n (omega arith)).0.0
 
-pub decimal_digits : (ds : List ℕ) (n most : ℕ) → most < 2 ^ 32 → n ≤ most → ds ≡ decimal n → AllDigits 10 ds × (digits_value 10 ds ≡ n)
+pub decimal_digits : (ds : List ℕ) (n most : ℕ) → most < 2 ^ 32 → n ≤ most → ds ≡ decimal n
+    → AllDigits 10 ds × (digits_value 10 ds ≡ n)
 decimal_digits ds n most small below e =
     let h = decimal_is_IsNumeral n (omega arith) in
     rw e (h.0.1, h.1)
 
-pub decimal_zero : (ds : List ℕ) (n most : ℕ) → most < 2 ^ 32 → n ≤ most → ds ≡ decimal n → get_or ds 0 0 ≡ 48 → length ds ≤ 1
+pub decimal_zero : (ds : List ℕ) (n most : ℕ) → most < 2 ^ 32 → n ≤ most → ds ≡ decimal n → get_or ds 0 0 ≡ 48
+    → length ds ≤ 1
 decimal_zero ds n most small below e zero =
     elim (cases_lt 0 n) [
       | inl some ↦

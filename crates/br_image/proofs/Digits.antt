@@ -3,7 +3,8 @@ use Rattle.std.proofs.Common.{◌≡◌, ℕ, ◌/◌, ◌%◌, ◌^◌, ◌<◌
 use Rattle.std.specs.Prelude.{slice_index, ◌==◌, ◌&&◌}
 use Rattle.std.specs.Int.{to_be_bytes, w32}
 use Rattle.hex.specs.Hex.{encode_with, encode_lower, lower_digits}
-use Rattle.br_image.specs.Text.{hex_digit, word_text}
+use Rattle.br_image.specs.Text.{word_text}
+use Rattle.br_words.specs.Hexadecimal.{hex_digit}
 use Rattle.std.proofs.lemmas.Bool.{and_parts, cases_lt, eqb-true}
 
 -- the test of the first places of the table, which computes

@@ -1,5 +1,6 @@
 -- The set of the names of entries.
-use Rattle.std.proofs.Common.{◌≡◌, ◌⊎◌, inl, inr, ℕ, ◌+◌, Bool, true, false, List, [], ◌∷◌, ◌++◌, refl, ap, sym, ◌∙◌, arith, subst, length, length-append, get_or}
+use Rattle.std.proofs.Common.{◌≡◌, ◌⊎◌, inl, inr, ℕ, ◌+◌, Bool, true, false, List, [], ◌∷◌, ◌++◌}
+use Rattle.std.proofs.Common.{refl, ap, sym, ◌∙◌, arith, subst, length, length-append, get_or}
 use Rattle.std.specs.Prelude.{Any, not, cond}
 use Rattle.std.specs.Global.{Vec}
 use Rattle.std.specs.declared.cmp.Ordering.{Ordering}
@@ -37,7 +38,8 @@ cmp_equal x y h =
       ]
     ]
 
-head_equal : (x y : ℕ) (o rest : Ordering) → nat_cmp x y ≡ o → is_eq (ordering_then o rest) ≡ true → (x ≡ y) × (is_eq rest ≡ true)
+head_equal : (x y : ℕ) (o rest : Ordering) → nat_cmp x y ≡ o → is_eq (ordering_then o rest) ≡ true
+    → (x ≡ y) × (is_eq rest ≡ true)
 head_equal x y Less rest h e = absurd cc
 head_equal x y Equal rest h e = (cmp_equal x y h, e)
 head_equal x y Greater rest h e = absurd cc
@@ -70,7 +72,8 @@ names_none names none = record {
   all = λ q h. let within = h.2 in absurd (omega arith);
 }
 
-any_more : (es : List Entry) (x : Entry) (name : List ℕ) → Any (λ e. e.name ≡ name) es → Any (λ e. e.name ≡ name) (es ++ x ∷ [])
+any_more : (es : List Entry) (x : Entry) (name : List ℕ) → Any (λ e. e.name ≡ name) es
+    → Any (λ e. e.name ≡ name) (es ++ x ∷ [])
 any_more es x name h =
     let within = h.2 in
     let len : length (es ++ x ∷ []) ≡ length es + 1 = length-append es (x ∷ []) in
@@ -81,7 +84,8 @@ any_last es x name h =
     let len : length (es ++ x ∷ []) ≡ length es + 1 = length-append es (x ∷ []) in
     (length es, x, omega arith, get_or_append_at es [] x x, h)
 
-any_split : (es : List Entry) (x : Entry) (name : List ℕ) → Any (λ e. e.name ≡ name) (es ++ x ∷ []) → Any (λ e. e.name ≡ name) es ⊎ (x.name ≡ name)
+any_split : (es : List Entry) (x : Entry) (name : List ℕ) → Any (λ e. e.name ≡ name) (es ++ x ∷ [])
+    → Any (λ e. e.name ≡ name) es ⊎ (x.name ≡ name)
 any_split es x name h =
     let within = h.2 in
     let len : length (es ++ x ∷ []) ≡ length es + 1 = length-append es (x ∷ []) in
@@ -89,11 +93,13 @@ any_split es x name h =
       | inl inside ↦ inl (h.0, h.1, inside, sym (get_or_append_left es (x ∷ []) h.1 h.0 inside) ∙ h.3, h.4)
       | inr last ↦
           let place : h.0 ≡ length es = omega arith in
-          let is : get_or (es ++ x ∷ []) h.0 h.1 ≡ x = ap (λ k. get_or (es ++ x ∷ []) k h.1) place ∙ get_or_append_at es [] x h.1 in
+          let is : get_or (es ++ x ∷ []) h.0 h.1 ≡ x = ap (λ k. get_or (es ++ x ∷ []) k h.1) place
+          ∙ get_or_append_at es [] x h.1 in
           inr (ap (λ e. e.name) (sym is ∙ h.3) ∙ h.4)
     ]
 
-by_place : (b : Bool) (x q : Vec ℕ) (rest : Bool) → is_at (name_cmp x) q ≡ b → cond b true rest ≡ true → (x.items ≡ q.items) ⊎ (rest ≡ true)
+by_place : (b : Bool) (x q : Vec ℕ) (rest : Bool) → is_at (name_cmp x) q ≡ b → cond b true rest ≡ true
+    → (x.items ≡ q.items) ⊎ (rest ≡ true)
 by_place true x q rest h e = inl (bytes_equal x.items q.items h)
 by_place false x q rest h e = inr e
 
@@ -101,7 +107,8 @@ both_true : (b : Bool) → cond b true true ≡ true
 both_true true = refl
 both_true false = refl
 
-pub names_more : (old new : BTreeSet (Vec ℕ)) (es : List Entry) (x : Entry) (key : Vec ℕ) → HoldsNames old es → Updates name_cmp old new key true → key.items ≡ x.name
+pub names_more : (old new : BTreeSet (Vec ℕ)) (es : List Entry) (x : Entry) (key : Vec ℕ) → HoldsNames old es
+    → Updates name_cmp old new key true → key.items ≡ x.name
     → HoldsNames new (es ++ x ∷ [])
 names_more old new es x key h update same = record {
   there = λ q is.

@@ -1,5 +1,6 @@
 -- What the text of a script's line tells.
-use Rattle.std.proofs.Common.{◌≡◌, ◌≢◌, ◌⊎◌, inl, inr, ℕ, zero, suc, ◌+◌, ◌*◌, ◌^◌, ◌<◌, ◌≤◌, ◌==◌, List, [], ◌∷◌, ◌++◌, refl, ap, sym, ◌∙◌, arith, append-nil, subst, length, take, drop, Option, Some, None}
+use Rattle.std.proofs.Common.{◌≡◌, ◌≢◌, ◌⊎◌, inl, inr, ℕ, zero, suc, ◌+◌, ◌*◌, ◌^◌, ◌<◌, ◌≤◌, ◌==◌, List, [], ◌∷◌, ◌++◌}
+use Rattle.std.proofs.Common.{refl, ap, sym, ◌∙◌, arith, append-nil, subst, length, take, drop, Option, Some, None}
 use Rattle.std.specs.Prelude.{All, codes, slice_index, if◌then◌else◌}
 use Rattle.std.specs.Fmt.{decimal}
 use Rattle.std.proofs.lemmas.Bool.{cases_lt, cases_eq}
@@ -12,15 +13,19 @@ use Rattle.br_bytes.specs.declared.run.Choice.{Choice}
 use Rattle.br_image.specs.declared.scripts.lines.Form.{Form}
 use Rattle.br_image.specs.declared.scripts.lines.Form.TheVariants as form
 use Rattle.br_image.specs.declared.scripts.lines.ScriptLine.{ScriptLine}
-use Rattle.br_image.specs.declared.scripts.lines.ScriptLine.TheVariants.{Run, Interp, Call, Args, Mem, Junk, Choose, Answer, Limit, End}
+use Rattle.br_image.specs.declared.scripts.lines.ScriptLine.TheVariants.{Run, Interp, Call, Args, Mem}
+use Rattle.br_image.specs.declared.scripts.lines.ScriptLine.TheVariants.{Junk, Choose, Answer, Limit, End}
 use Rattle.br_image.specs.Text.{word_text}
 use Rattle.br_image.specs.Forms.{IsTail}
-use Rattle.br_image.specs.Fields.{bytes_text, bytes_field, word_fields}
-use Rattle.br_image.specs.ScriptLines.{keyword, form_of, tail_of, range_fields, script_line_text, IsBuffer, IsRange, IsScriptLine, most_answers}
+use Rattle.br_image.specs.Fields.{bytes_field, word_fields}
+use Rattle.br_bytes.specs.Hexadecimal.{bytes_text}
+use Rattle.br_image.specs.ScriptLines.{keyword, form_of, tail_of, range_fields, script_line_text}
+use Rattle.br_image.specs.ScriptLines.{IsBuffer, IsRange, IsScriptLine, most_answers}
 use Rattle.br_image.specs.ScriptReading.{IsContent, IsScriptLineOf}
 use Rattle.br_image.proofs.Pieces.{Free, Free-append, Free-not, Free-from_test, Free-decimal, Free-name, cut}
 use Rattle.br_image.proofs.Forms.{Free-word, word_text-injective}
-use Rattle.br_image.proofs.Bytes.{Free-bytes_field, bytes_field-injective, bytes_text-injective, word_front, fields_front, Free-word_fields}
+use Rattle.br_image.proofs.Bytes.{Free-bytes_field, bytes_field-injective, bytes_text-injective}
+use Rattle.br_image.proofs.Bytes.{word_front, fields_front, Free-word_fields}
 use Rattle.br_image.proofs.Deciding.{cut_at, same_bytes, number_below, name_or_not}
 
 -- ---- forms by number
@@ -34,8 +39,10 @@ form_number f = word_number (keyword f)
 
 abbrev form_by : ℕ → Form
 form_by n =
-    if n == 342 then form.Run else if n == 324 then form.Interp else if n == 313 then form.Call else if n == 320 then form.Args else if n == 319 then form.Mem
-    else if n == 337 then form.Junk else if n == 326 then form.Choose else if n == 340 then form.Answer else if n == 323 then form.Limit else form.End
+    if n == 342 then form.Run else if n == 324 then form.Interp else if n == 313 then form.Call else if n == 320
+    then form.Args else if n == 319 then form.Mem
+    else if n == 337 then form.Junk else if n == 326 then form.Choose else if n == 340 then form.Answer else if n == 323
+    then form.Limit else form.End
 
 form_by-number : (f : Form) → form_by (form_number f) ≡ f
 form_by-number form.Run = refl
@@ -189,14 +196,16 @@ same_choice c d e h = let whole : make_choice c.addr c.bytes ≡ make_choice d.a
 
 pub range_fields-injective : (c d : Choice) → IsBuffer c → IsBuffer d → range_fields c ≡ range_fields d → c ≡ d
 range_fields-injective c d h k e =
-    let parts = word_front c.addr d.addr (bytes_field c.bytes) (bytes_field d.bytes) h.address k.address (ap (λ t. drop 1 t) e) in
+    let parts = word_front c.addr d.addr (bytes_field c.bytes) (bytes_field d.bytes) h.address k.address
+    (ap (λ t. drop 1 t) e) in
     same_choice c d parts.0 (bytes_field-injective c.bytes d.bytes h.bytes k.bytes parts.1)
 
 words_same : (us vs ws : List ℕ) → ws ≡ vs ++ us → [] ≡ word_fields us → vs ≡ ws
 words_same [] vs ws e h = sym (e ∙ append-nil vs)
 words_same (u ∷ us) vs ws e h = absurd cc
 
-pub word_fields-injective : (vs ws : List ℕ) → All (λ w. w < 2 ^ 32) vs → All (λ w. w < 2 ^ 32) ws → word_fields vs ≡ word_fields ws → vs ≡ ws
+pub word_fields-injective : (vs ws : List ℕ) → All (λ w. w < 2 ^ 32) vs → All (λ w. w < 2 ^ 32) ws
+    → word_fields vs ≡ word_fields ws → vs ≡ ws
 word_fields-injective vs ws h k e =
     let front = fields_front vs ws [] h k (append-nil (word_fields vs) ∙ e) in
     words_same front.0 vs ws front.2 front.3
@@ -219,7 +228,8 @@ same_content (Mem range) m h f =
     subst (λ x. IsSame (Mem range) x) (sym i.1) (λ k e. ap Mem (range_fields-injective range i.0 h.buffer k.buffer e))
 same_content (Junk word) m h f =
     let i = is_junk m f in
-    subst (λ x. IsSame (Junk word) x) (sym i.1) (λ k e. ap Junk (word_text-injective word i.0 h k (ap (λ t. drop 1 t) e)))
+    subst (λ x. IsSame (Junk word) x) (sym i.1)
+    (λ k e. ap Junk (word_text-injective word i.0 h k (ap (λ t. drop 1 t) e)))
 same_content (Choose buffer) m h f =
     let i = is_choose m f in
     subst (λ x. IsSame (Choose buffer) x) (sym i.1) (λ k e. ap Choose (range_fields-injective buffer i.0 h k e))
@@ -232,14 +242,17 @@ same_content (Answer word times) m h f =
     ap (λ w. Answer w times) parts.0 ∙ ap (λ n. Answer i.0 n) count)
 same_content (Limit n) m h f =
     let i = is_limit m f in
-    subst (λ x. IsSame (Limit n) x) (sym i.1) (λ k e. ap Limit (decimal_injective n i.0 (omega arith) (omega arith) (ap (λ t. drop 1 t) e)))
+    subst (λ x. IsSame (Limit n) x) (sym i.1)
+    (λ k e. ap Limit (decimal_injective n i.0 (omega arith) (omega arith) (ap (λ t. drop 1 t) e)))
 same_content End m h f = λ k e. sym (is_end m f)
 
 -- two lines with one text are equal
-pub script_line-injective : (l m : ScriptLine) → IsScriptLine l → IsScriptLine m → script_line_text l ≡ script_line_text m → l ≡ m
+pub script_line-injective : (l m : ScriptLine) → IsScriptLine l → IsScriptLine m
+    → script_line_text l ≡ script_line_text m → l ≡ m
 unfolding IsSame
 script_line-injective l m h k e =
-    let parts = tail_split (keyword (form_of l)) (keyword (form_of m)) (tail_of l) (tail_of m) (Free-keyword (form_of l)) (Free-keyword (form_of m)) (tail_is l) (tail_is m) e in
+    let parts = tail_split (keyword (form_of l)) (keyword (form_of m)) (tail_of l) (tail_of m)
+    (Free-keyword (form_of l)) (Free-keyword (form_of m)) (tail_is l) (tail_is m) e in
     same_content l m h (sym (keyword-injective (form_of l) (form_of m) parts.0)) k parts.1
 
 -- ---- no line holds a line feed
@@ -249,12 +262,23 @@ Free-tail Run h = Free-from_test 10 (codes " 1") refl
 Free-tail Interp h = Free-from_test 10 (codes " 1") refl
 Free-tail (Call name) h = ((λ e. absurd (omega arith)), Free-name 10 name (omega arith) h)
 Free-tail (Args words) h = Free-word_fields words
-Free-tail (Mem range) h = ((λ e. absurd (omega arith)), Free-append 10 (word_text range.addr) (bytes_field range.bytes) (Free-word 10 range.addr (omega arith)) (Free-bytes_field range.bytes))
+Free-tail (Mem range) h = (
+  (λ e. absurd (omega arith)),
+  Free-append 10 (word_text range.addr) (bytes_field range.bytes)
+      (Free-word 10 range.addr (omega arith)) (Free-bytes_field range.bytes),
+)
 Free-tail (Junk word) h = ((λ e. absurd (omega arith)), Free-word 10 word (omega arith))
-Free-tail (Choose buffer) h = ((λ e. absurd (omega arith)), Free-append 10 (word_text buffer.addr) (bytes_field buffer.bytes) (Free-word 10 buffer.addr (omega arith)) (Free-bytes_field buffer.bytes))
+Free-tail (Choose buffer) h = (
+  (λ e. absurd (omega arith)),
+  Free-append 10 (word_text buffer.addr) (bytes_field
+      buffer.bytes) (Free-word 10 buffer.addr (omega arith)) (Free-bytes_field buffer.bytes),
+)
 Free-tail (Answer word times) h =
-    let most = h.most in
-    ((λ e. absurd (omega arith)), Free-append 10 (word_text word) (32 ∷ decimal times) (Free-word 10 word (omega arith)) ((λ e. absurd (omega arith)), Free-decimal 10 times (omega arith) (omega arith)))
+    let most = h.most in (
+      (λ e. absurd (omega arith)),
+      Free-append 10 (word_text word) (32 ∷ decimal times) (Free-word 10 word (omega arith))
+          ((λ e. absurd (omega arith)), Free-decimal 10 times (omega arith) (omega arith)),
+    )
 Free-tail (Limit n) h = ((λ e. absurd (omega arith)), Free-decimal 10 n (omega arith) (omega arith))
 Free-tail End h = tt
 
@@ -263,28 +287,40 @@ Free-script_line l h = Free-append 10 (keyword (form_of l)) (tail_of l) (one_lin
 
 -- ---- from the first word and the tail to the line
 
-pub line_from : (bytes word tail : List ℕ) (f : Form) (o : Option ScriptLine) → bytes ≡ word ++ tail → Free 32 word → IsTail tail → word ≡ keyword f
+pub line_from : (bytes word tail : List ℕ) (f : Form) (o : Option ScriptLine) → bytes ≡ word ++ tail → Free 32 word
+    → IsTail tail → word ≡ keyword f
     → IsContent f tail o → IsScriptLineOf bytes o
-line_from bytes word tail f (Some l) e h t w c = (c.1, e ∙ (ap (λ x. x ++ tail) (w ∙ ap keyword (sym c.0)) ∙ ap (λ x. keyword (form_of l) ++ x) c.2))
+line_from bytes word tail f (Some l) e h t w c =
+    (c.1, e ∙ (ap (λ x. x ++ tail) (w ∙ ap keyword (sym c.0)) ∙ ap (λ x. keyword (form_of l) ++ x) c.2))
 line_from bytes word tail f None e h t w c = λ l k same.
-    let parts = tail_split word (keyword (form_of l)) tail (tail_of l) h (Free-keyword (form_of l)) t (tail_is l) (sym e ∙ same) in
+    let parts = tail_split word (keyword (form_of l)) tail (tail_of l) h (Free-keyword (form_of l)) t (tail_is l)
+    (sym e ∙ same) in
     c l (keyword-injective (form_of l) f (sym parts.0 ∙ w)) k parts.1
 
-pub line_of_none : (bytes word tail : List ℕ) → bytes ≡ word ++ tail → Free 32 word → IsTail tail → ((f : Form) → word ≢ keyword f) → IsScriptLineOf bytes None
+pub line_of_none : (bytes word tail : List ℕ) → bytes ≡ word ++ tail → Free 32 word → IsTail tail
+    → ((f : Form) → word ≢ keyword f) → IsScriptLineOf bytes None
 line_of_none bytes word tail e h t none = λ l k same.
-    none (form_of l) (tail_split word (keyword (form_of l)) tail (tail_of l) h (Free-keyword (form_of l)) t (tail_is l) (sym e ∙ same)).0
+    none (form_of l) (tail_split word (keyword (form_of l)) tail (tail_of l) h (Free-keyword (form_of l)) t (tail_is l)
+    (sym e ∙ same)).0
 
 -- ---- each question has an answer
 
 pub word_or_not : (xs : List ℕ)
-    → ((w : ℕ) × (rest : List ℕ) × (w < 2 ^ 32) × (xs ≡ 32 ∷ (word_text w ++ rest))) ⊎ ((w : ℕ) (rest : List ℕ) → w < 2 ^ 32 → xs ≢ 32 ∷ (word_text w ++ rest))
+    → ((w : ℕ) × (rest : List ℕ) × (w < 2 ^ 32) × (xs ≡ 32 ∷ (word_text w ++ rest)))
+    ⊎ ((w : ℕ) (rest : List ℕ) → w < 2 ^ 32 → xs ≢ 32 ∷ (word_text w ++ rest))
 word_or_not [] = inr (λ w rest h e. absurd cc)
 word_or_not (x ∷ xs) =
     elim (cases_eq x 32) [
       | inr other ↦ inr (λ w rest h e. other cc)
       | inl same ↦ elim (number_below word_text (take 8 xs) (2 ^ 32)) [
         | inr none ↦ inr (λ w rest h e. none w h (ap (λ t. take 8 (drop 1 t)) e))
-        | inl found ↦ inl (found.0, drop 8 xs, found.1, ap (λ c. c ∷ xs) same ∙ ap (λ t. 32 ∷ t) (sym (take-append-drop 8 xs) ∙ ap (λ t. t ++ drop 8 xs) found.2))
+        | inl found ↦ inl (
+          found.0,
+          drop 8 xs,
+          found.1,
+          ap (λ c. c ∷ xs) same
+              ∙ ap (λ t. 32 ∷ t) (sym (take-append-drop 8 xs) ∙ ap (λ t. t ++ drop 8 xs) found.2),
+        )
       ]
     ]
 
@@ -292,19 +328,23 @@ no_words : (xs : List ℕ) (x : ℕ) (ws : List ℕ) → length ws ≤ 0 → x �
 no_words xs x [] h e = absurd cc
 no_words xs x (w ∷ ws) h e = absurd (omega arith)
 
-first_word : (xs : List ℕ) (x : ℕ) (ws : List ℕ) → ((w : ℕ) (rest : List ℕ) → w < 2 ^ 32 → x ∷ xs ≢ 32 ∷ (word_text w ++ rest)) → All (λ w. w < 2 ^ 32) ws → x ∷ xs ≢ word_fields ws
+first_word : (xs : List ℕ) (x : ℕ) (ws : List ℕ) → ((w : ℕ) (rest : List ℕ) → w < 2 ^ 32
+    → x ∷ xs ≢ 32 ∷ (word_text w ++ rest)) → All (λ w. w < 2 ^ 32) ws → x ∷ xs ≢ word_fields ws
 first_word xs x [] none h e = absurd cc
 first_word xs x (w ∷ ws) none h e = none w (word_fields ws) (All-head (λ w. w < 2 ^ 32) w ws h) e
 
 more_words : (xs rest : List ℕ) (v m : ℕ) (ws : List ℕ) → v < 2 ^ 32 → xs ≡ 32 ∷ (word_text v ++ rest)
-    → ((us : List ℕ) → length us ≤ m → All (λ w. w < 2 ^ 32) us → rest ≢ word_fields us) → length ws ≤ suc m → All (λ w. w < 2 ^ 32) ws → xs ≢ word_fields ws
+    → ((us : List ℕ) → length us ≤ m → All (λ w. w < 2 ^ 32) us → rest ≢ word_fields us) → length ws ≤ suc m
+    → All (λ w. w < 2 ^ 32) ws → xs ≢ word_fields ws
 more_words xs rest v m [] small d none few h e = absurd cc
 more_words xs rest v m (w ∷ ws) small d none few h e =
     let P : ℕ → Type 0 = λ w. w < 2 ^ 32 in
-    none ws (omega arith) (All-tail P w ws h) (word_front v w rest (word_fields ws) small (All-head P w ws h) (ap (λ t. drop 1 t) (sym d ∙ e))).1
+    none ws (omega arith) (All-tail P w ws h)
+    (word_front v w rest (word_fields ws) small (All-head P w ws h) (ap (λ t. drop 1 t) (sym d ∙ e))).1
 
 pub words_or_not : (m : ℕ) (xs : List ℕ)
-    → ((ws : List ℕ) × (length ws ≤ m) × All (λ w. w < 2 ^ 32) ws × (xs ≡ word_fields ws)) ⊎ ((ws : List ℕ) → length ws ≤ m → All (λ w. w < 2 ^ 32) ws → xs ≢ word_fields ws)
+    → ((ws : List ℕ) × (length ws ≤ m) × All (λ w. w < 2 ^ 32) ws × (xs ≡ word_fields ws))
+    ⊎ ((ws : List ℕ) → length ws ≤ m → All (λ w. w < 2 ^ 32) ws → xs ≢ word_fields ws)
 words_or_not m [] = inl ([], omega arith, All-nil (λ w. w < 2 ^ 32), refl)
 words_or_not zero (x ∷ xs) = inr (λ ws few h. no_words xs x ws few)
 words_or_not (suc m) (x ∷ xs) =
@@ -313,7 +353,13 @@ words_or_not (suc m) (x ∷ xs) =
       | inl one ↦ elim (words_or_not m one.1) [
         | inl more ↦
             let few = more.1 in
-            inl (one.0 ∷ more.0, omega arith, All-cons (λ w. w < 2 ^ 32) one.0 more.0 one.2 more.2, one.3 ∙ ap (λ t. 32 ∷ (word_text one.0 ++ t)) more.3)
+            inl (
+              one.0 ∷ more.0,
+              omega arith,
+              All-cons (λ w. w < 2 ^ 32) one.0 more.0 one.2 more.2,
+              one.3
+                  ∙ ap (λ t. 32 ∷ (word_text one.0 ++ t)) more.3,
+            )
         | inr none ↦ inr (λ ws few h. more_words (x ∷ xs) one.1 one.0 m ws one.2 one.3 none few h)
       ]
     ]
@@ -339,7 +385,8 @@ unfolding Byteless
 byteless_rest x y xs none [] h e = absurd cc
 byteless_rest x y xs none (b ∷ bs) h e = none bs (All-tail (λ b. b < 256) b bs h) (ap (λ t. drop 2 t) e)
 
-pair_join : (x y b : ℕ) (xs bs : List ℕ) → x ∷ y ∷ [] ≡ bytes_text (b ∷ []) → xs ≡ bytes_text bs → x ∷ y ∷ xs ≡ bytes_text (b ∷ bs)
+pair_join : (x y b : ℕ) (xs bs : List ℕ) → x ∷ y ∷ [] ≡ bytes_text (b ∷ []) → xs ≡ bytes_text bs
+    → x ∷ y ∷ xs ≡ bytes_text (b ∷ bs)
 pair_join x y b xs bs e h = ap (λ t. t ++ xs) e ∙ ap (λ t. bytes_text (b ∷ []) ++ t) h
 
 bytes_or_not : (xs : List ℕ) → ((bs : List ℕ) × All (λ b. b < 256) bs × (xs ≡ bytes_text bs)) ⊎ Byteless xs
@@ -350,7 +397,11 @@ bytes_or_not (x ∷ y ∷ xs) =
       | inr none ↦ inr (byteless_pair x y xs none)
       | inl one ↦ elim (bytes_or_not xs) [
         | inr none ↦ inr (byteless_rest x y xs none)
-        | inl more ↦ inl (one.0 ∷ more.0, All-cons (λ b. b < 256) one.0 more.0 one.1 more.1, pair_join x y one.0 xs more.0 one.2 more.2)
+        | inl more ↦ inl (
+          one.0 ∷ more.0,
+          All-cons (λ b. b < 256) one.0 more.0 one.1 more.1,
+          pair_join x y one.0 xs more.0 one.2 more.2,
+        )
       ]
     ]
 
@@ -369,20 +420,24 @@ field_tail x xs (b ∷ bs) e = (ap (λ t. drop 1 t) e, (λ h. absurd cc))
 some_bytes : (x : ℕ) (xs bs : List ℕ) → x ∷ xs ≡ bytes_text bs → bs ≢ []
 some_bytes x xs bs e h = no_bytes x xs bs h e
 
-pub bytes_field_or_not : (xs : List ℕ) → ((bs : List ℕ) × All (λ b. b < 256) bs × (xs ≡ bytes_field bs)) ⊎ ((bs : List ℕ) → All (λ b. b < 256) bs → xs ≢ bytes_field bs)
+pub bytes_field_or_not : (xs : List ℕ) → ((bs : List ℕ) × All (λ b. b < 256) bs × (xs ≡ bytes_field bs))
+    ⊎ ((bs : List ℕ) → All (λ b. b < 256) bs → xs ≢ bytes_field bs)
 unfolding Byteless
 bytes_field_or_not [] = inl ([], All-nil (λ b. b < 256), refl)
-bytes_field_or_not (x ∷ []) = inr (λ bs h e. let t = field_tail x [] bs e in t.1 (bytes_text-injective bs [] h (All-nil (λ b. b < 256)) (sym t.0)))
+bytes_field_or_not (x ∷ []) = inr
+    (λ bs h e. let t = field_tail x [] bs e in t.1 (bytes_text-injective bs [] h (All-nil (λ b. b < 256)) (sym t.0)))
 bytes_field_or_not (x ∷ y ∷ xs) =
     elim (cases_eq x 32) [
       | inr other ↦ inr (λ bs h e. other (field_head x (y ∷ xs) bs e))
       | inl same ↦ elim (bytes_or_not (y ∷ xs)) [
-        | inl found ↦ inl (found.0, found.1, field_some x (y ∷ xs) found.0 same found.2 (some_bytes y xs found.0 found.2))
+        | inl found ↦
+            inl (found.0, found.1, field_some x (y ∷ xs) found.0 same found.2 (some_bytes y xs found.0 found.2))
         | inr none ↦ inr (λ bs h e. none bs h (field_tail x (y ∷ xs) bs e).0)
       ]
     ]
 
-pub buffer_or_not : (xs : List ℕ) → ((c : Choice) × IsBuffer c × (xs ≡ range_fields c)) ⊎ ((c : Choice) → IsBuffer c → xs ≢ range_fields c)
+pub buffer_or_not : (xs : List ℕ)
+    → ((c : Choice) × IsBuffer c × (xs ≡ range_fields c)) ⊎ ((c : Choice) → IsBuffer c → xs ≢ range_fields c)
 buffer_or_not xs =
     elim (word_or_not xs) [
       | inr none ↦ inr (λ c h. none c.addr (bytes_field c.bytes) h.address)
@@ -392,7 +447,8 @@ buffer_or_not xs =
           record { address = one.2; bytes = found.1 },
           one.3 ∙ ap (λ t. 32 ∷ (word_text one.0 ++ t)) found.2,
         )
-        | inr none ↦ inr (λ c h e. none c.bytes h.bytes (word_front one.0 c.addr one.1 (bytes_field c.bytes) one.2 h.address (ap (λ t. drop 1 t) (sym one.3 ∙ e))).1)
+        | inr none ↦ inr (λ c h e. none c.bytes h.bytes (word_front one.0 c.addr one.1 (bytes_field c.bytes) one.2
+            h.address (ap (λ t. drop 1 t) (sym one.3 ∙ e))).1)
       ]
     ]
 
@@ -419,10 +475,12 @@ Known : Form → List ℕ → Type 0
 Known f tail = (o : Option ScriptLine) × IsContent f tail o
 
 -- a line of a form is not of another content
-pub other_line : (f : Form) (tail : List ℕ) (l m : ScriptLine) → (IsScriptLine m → tail ≢ tail_of m) → l ≡ m → IsScriptLine l → tail ≢ tail_of l
+pub other_line : (f : Form) (tail : List ℕ) (l m : ScriptLine) → (IsScriptLine m → tail ≢ tail_of m) → l ≡ m
+    → IsScriptLine l → tail ≢ tail_of l
 other_line f tail l m h e = subst (λ x. IsScriptLine x → tail ≢ tail_of x) (sym e) h
 
-fixed_known : (f : Form) (tail : List ℕ) (l : ScriptLine) → form_of l ≡ f → IsScriptLine l → ((m : ScriptLine) → form_of m ≡ f → m ≡ l) → Known f tail
+fixed_known : (f : Form) (tail : List ℕ) (l : ScriptLine) → form_of l ≡ f → IsScriptLine l
+    → ((m : ScriptLine) → form_of m ≡ f → m ≡ l) → Known f tail
 unfolding Known
 fixed_known f tail l h k only =
     elim (same_bytes tail (tail_of l)) [
@@ -450,7 +508,8 @@ call_known tail =
         | inr none ↦ (
           None,
           (λ m q. let i = is_call m q in other_line form.Call tail m (Call i.0)
-              (λ k e. let P : List ℕ → Type 0 = λ t. IsName t in none (subst P (sym (after tail found.0 i.0 found.1 e)) k)) i.1),
+              (λ k e. let P : List ℕ → Type 0 = λ t. IsName t in
+              none (subst P (sym (after tail found.0 i.0 found.1 e)) k)) i.1),
         )
       ]
     ]
@@ -460,25 +519,29 @@ unfolding Known
 args_known tail =
     elim (words_or_not 8 tail) [
       | inl found ↦ (Some (Args found.0), (refl, (found.1, found.2), found.3))
-      | inr none ↦ (None, (λ m q. let i = is_args m q in other_line form.Args tail m (Args i.0) (λ k. none i.0 k.0 k.1) i.1))
+      | inr none ↦
+          (None, (λ m q. let i = is_args m q in other_line form.Args tail m (Args i.0) (λ k. none i.0 k.0 k.1) i.1))
     ]
 
 mem_known : (tail : List ℕ) → Known form.Mem tail
 unfolding Known
 mem_known tail =
     elim (buffer_or_not tail) [
-      | inr none ↦ (None, (λ m q. let i = is_mem m q in other_line form.Mem tail m (Mem i.0) (λ k. none i.0 k.buffer) i.1))
+      | inr none ↦
+          (None, (λ m q. let i = is_mem m q in other_line form.Mem tail m (Mem i.0) (λ k. none i.0 k.buffer) i.1))
       | inl found ↦ elim (range_or_not found.0 found.1) [
         | inl range ↦ (Some (Mem found.0), (refl, range, found.2))
         | inr none ↦ (
           None,
           (λ m q. let i = is_mem m q in other_line form.Mem tail m (Mem i.0)
-              (λ k e. none (subst (λ c. IsRange c) (range_fields-injective i.0 found.0 k.buffer found.1 (sym e ∙ found.2)) k)) i.1),
+              (λ k e. none (subst (λ c. IsRange c)
+              (range_fields-injective i.0 found.0 k.buffer found.1 (sym e ∙ found.2)) k)) i.1),
         )
       ]
     ]
 
-pub only_word : (tail : List ℕ) → ((w : ℕ) × (w < 2 ^ 32) × (tail ≡ 32 ∷ word_text w)) ⊎ ((w : ℕ) → w < 2 ^ 32 → tail ≢ 32 ∷ word_text w)
+pub only_word : (tail : List ℕ)
+    → ((w : ℕ) × (w < 2 ^ 32) × (tail ≡ 32 ∷ word_text w)) ⊎ ((w : ℕ) → w < 2 ^ 32 → tail ≢ 32 ∷ word_text w)
 only_word tail = elim (number_below (λ w. 32 ∷ word_text w) tail (2 ^ 32)) [
   | inl found ↦ inl (found.0, found.1, found.2)
   | inr none ↦ inr none
@@ -497,27 +560,40 @@ unfolding Known
 choose_known tail =
     elim (buffer_or_not tail) [
       | inl found ↦ (Some (Choose found.0), (refl, found.1, found.2))
-      | inr none ↦ (None, (λ m q. let i = is_choose m q in other_line form.Choose tail m (Choose i.0) (λ k. none i.0 k) i.1))
+      | inr none ↦
+          (None, (λ m q. let i = is_choose m q in other_line form.Choose tail m (Choose i.0) (λ k. none i.0 k) i.1))
     ]
 
 answer_known : (tail : List ℕ) → Known form.Answer tail
 unfolding Known
 answer_known tail =
     elim (word_or_not tail) [
-      | inr none ↦ (None, (λ m q. let i = is_answer m q in other_line form.Answer tail m (Answer i.0 i.1) (λ k. none i.0 (32 ∷ decimal i.1) k.fits) i.2))
+      | inr none ↦ (
+        None,
+        (λ m q. let i = is_answer m q in
+            other_line form.Answer tail m (Answer i.0 i.1) (λ k. none i.0 (32 ∷ decimal i.1) k.fits) i.2),
+      )
       | inl one ↦ elim (number_below (λ n. 32 ∷ decimal (suc n)) one.1 1000000) [
         | inl found ↦
-            let below = found.1 in
-            (Some (Answer one.0 (suc found.0)), (refl, record { fits = one.2; some = omega arith; most = omega arith }, one.3 ∙ ap (λ t. 32 ∷ (word_text one.0 ++ t)) found.2))
+            let below = found.1 in (
+              Some (Answer one.0 (suc found.0)),
+              (
+                refl,
+                record { fits = one.2; some = omega arith; most = omega arith },
+                one.3 ∙ ap (λ t. 32 ∷ (word_text one.0 ++ t)) found.2,
+              ),
+            )
         | inr none ↦ (
           None,
           (λ m q. let i = is_answer m q in other_line form.Answer tail m (Answer i.0 i.1)
-              (λ k e. no_answer one.1 i.1 none k.some k.most (word_front one.0 i.0 one.1 (32 ∷ decimal i.1) one.2 k.fits (ap (λ t. drop 1 t) (sym one.3 ∙ e))).1) i.2),
+              (λ k e. no_answer one.1 i.1 none k.some k.most (word_front one.0 i.0 one.1 (32 ∷ decimal i.1) one.2 k.fits
+              (ap (λ t. drop 1 t) (sym one.3 ∙ e))).1) i.2),
         )
       ]
     ]
   where
-    no_answer : (rest : List ℕ) (n : ℕ) → ((k : ℕ) → k < 1000000 → rest ≢ 32 ∷ decimal (suc k)) → 1 ≤ n → n ≤ most_answers → rest ≢ 32 ∷ decimal n
+    no_answer : (rest : List ℕ) (n : ℕ) → ((k : ℕ) → k < 1000000 → rest ≢ 32 ∷ decimal (suc k)) → 1 ≤ n
+        → n ≤ most_answers → rest ≢ 32 ∷ decimal n
     no_answer rest zero none some most = absurd (omega arith)
     no_answer rest (suc n) none some most = none n (omega arith)
 
@@ -526,7 +602,10 @@ unfolding Known
 limit_known tail =
     elim (number_below (λ n. 32 ∷ decimal n) tail 1000001) [
       | inl found ↦ let below = found.1 in (Some (Limit found.0), (refl, omega arith, found.2))
-      | inr none ↦ (None, (λ m q. let i = is_limit m q in other_line form.Limit tail m (Limit i.0) (λ k. none i.0 (omega arith)) i.1))
+      | inr none ↦ (
+        None,
+        (λ m q. let i = is_limit m q in other_line form.Limit tail m (Limit i.0) (λ k. none i.0 (omega arith)) i.1),
+      )
     ]
 
 content_known : (f : Form) (tail : List ℕ) → Known f tail
@@ -543,7 +622,8 @@ content_known form.End tail = fixed_known form.End tail End refl tt is_end
 
 -- ---- what a reading finds
 
-pub no_zero : (tail rest : List ℕ) (word times : ℕ) → word < 2 ^ 32 → tail ≡ 32 ∷ (word_text word ++ rest) → times ≤ most_answers → rest ≡ 32 ∷ decimal times → times ≡ 0
+pub no_zero : (tail rest : List ℕ) (word times : ℕ) → word < 2 ^ 32 → tail ≡ 32 ∷ (word_text word ++ rest)
+    → times ≤ most_answers → rest ≡ 32 ∷ decimal times → times ≡ 0
     → IsContent form.Answer tail None
 no_zero tail rest word times small e most d none = λ l q.
     let i = is_answer l q in
@@ -551,36 +631,43 @@ no_zero tail rest word times small e most d none = λ l q.
     (λ k same.
     let some = k.some in let within = k.most in
     let parts = word_front word i.0 rest (32 ∷ decimal i.1) small k.fits (ap (λ t. drop 1 t) (sym e ∙ same)) in
-    let count : times ≡ i.1 = decimal_injective times i.1 (omega arith) (omega arith) (ap (λ t. drop 1 t) (sym d ∙ parts.1)) in
+    let count : times ≡ i.1 =
+    decimal_injective times i.1 (omega arith) (omega arith) (ap (λ t. drop 1 t) (sym d ∙ parts.1)) in
     absurd (omega arith)) i.2
 
 pub no_buffer : (tail : List ℕ) → ((c : Choice) → IsBuffer c → tail ≢ range_fields c) → IsContent form.Mem tail None
 no_buffer tail none = λ l q. let i = is_mem l q in other_line form.Mem tail l (Mem i.0) (λ k. none i.0 k.buffer) i.1
 
-pub no_range : (tail : List ℕ) (c : Choice) → IsBuffer c → tail ≡ range_fields c → (IsRange c → ⊥) → IsContent form.Mem tail None
+pub no_range : (tail : List ℕ) (c : Choice) → IsBuffer c → tail ≡ range_fields c → (IsRange c → ⊥)
+    → IsContent form.Mem tail None
 no_range tail c h e none = λ l q.
     let i = is_mem l q in
-    other_line form.Mem tail l (Mem i.0) (λ k same. none (subst (λ x. IsRange x) (range_fields-injective i.0 c k.buffer h (sym same ∙ e)) k)) i.1
+    other_line form.Mem tail l (Mem i.0)
+    (λ k same. none (subst (λ x. IsRange x) (range_fields-injective i.0 c k.buffer h (sym same ∙ e)) k)) i.1
 
 -- ---- lines
 
-pub split_word : (bytes : List ℕ) → (word : List ℕ) × (tail : List ℕ) × (bytes ≡ word ++ tail) × Free 32 word × IsTail tail
+pub split_word : (bytes : List ℕ)
+    → (word : List ℕ) × (tail : List ℕ) × (bytes ≡ word ++ tail) × Free 32 word × IsTail tail
 split_word bytes = elim (cut_at 32 bytes) [
   | inl none ↦ (bytes, [], sym (append-nil bytes), none, tt)
   | inr found ↦ (found.0, 32 ∷ found.1, found.3, found.2, refl)
 ]
 
 told : (bytes : List ℕ) (o : Option ScriptLine) → IsScriptLineOf bytes o
-    → ((l : ScriptLine) × IsScriptLine l × (bytes ≡ script_line_text l)) ⊎ ((l : ScriptLine) → IsScriptLine l → bytes ≢ script_line_text l)
+    → ((l : ScriptLine) × IsScriptLine l × (bytes ≡ script_line_text l))
+    ⊎ ((l : ScriptLine) → IsScriptLine l → bytes ≢ script_line_text l)
 told bytes (Some l) h = inl (l, h.0, h.1)
 told bytes None h = inr h
 
 pub script_line_or_not : (bytes : List ℕ)
-    → ((l : ScriptLine) × IsScriptLine l × (bytes ≡ script_line_text l)) ⊎ ((l : ScriptLine) → IsScriptLine l → bytes ≢ script_line_text l)
+    → ((l : ScriptLine) × IsScriptLine l × (bytes ≡ script_line_text l))
+    ⊎ ((l : ScriptLine) → IsScriptLine l → bytes ≢ script_line_text l)
 unfolding Known
 script_line_or_not bytes =
     let s = split_word bytes in
     elim (named_or_not s.0) [
       | inr none ↦ told bytes None (line_of_none bytes s.0 s.1 s.2 s.3 s.4 none)
-      | inl found ↦ let known = content_known found.0 s.1 in told bytes known.0 (line_from bytes s.0 s.1 found.0 known.0 s.2 s.3 s.4 found.1 known.1)
+      | inl found ↦ let known = content_known found.0 s.1 in
+          told bytes known.0 (line_from bytes s.0 s.1 found.0 known.0 s.2 s.3 s.4 found.1 known.1)
     ]

@@ -1,13 +1,13 @@
 -- What is wrong with a text that is the text of no image. Lines count from 1.
-use Rattle.std.specs.Prelude.{ℕ, ◌≡◌, ◌≢◌, ◌+◌, ◌*◌, ◌%◌, ◌<◌, ◌⊎◌, List, [], ◌∷◌, ◌++◌, All, length, take, slice_get, Some}
-use Rattle.br_base.specs.declared.failure.OrMemory.{OrMemory}
-use Rattle.br_base.specs.declared.failure.OrMemory.TheVariants.{Memory, Fault}
+use Rattle.std.specs.Prelude.{ℕ, ◌≡◌, ◌≢◌, ◌+◌, ◌*◌, ◌%◌, ◌<◌, ◌⊎◌, List, []}
+use Rattle.std.specs.Prelude.{◌∷◌, ◌++◌, All, length, take, slice_get, Some}
 use Rattle.br_words.specs.declared.layout.Layout.{Layout}
 use Rattle.br_image.specs.declared.images.Entry.{Entry}
 use Rattle.br_image.specs.declared.lines.Line.{Line}
 use Rattle.br_image.specs.declared.lines.Line.TheVariants.{End}
 use Rattle.br_image.specs.declared.faults.ImageFault.{ImageFault}
-use Rattle.br_image.specs.declared.faults.ImageFault.TheVariants.{BadLine, BadOrder, BadOffset, Truncated}
+use Rattle.br_image.specs.declared.faults.ImageFault.TheVariants.{BadLine, BadOrder}
+use Rattle.br_image.specs.declared.faults.ImageFault.TheVariants.{BadOffset, Truncated}
 use Rattle.br_image.specs.Limits.{HaveDifferentNames}
 use Rattle.br_image.specs.Text.{line}
 use Rattle.br_image.specs.Lines.{IsLine, layout_after, line_text, text_of, lines_of}
@@ -16,9 +16,11 @@ use Rattle.br_image.specs.Forms.{Lacks}
 -- an image, its offsets aside, has these lines and then some more
 abbrev pub BeginsImage : List Line → Type 0
 BeginsImage lines =
-    (layout : Layout) × (entries : List Entry) × (code : List ℕ) × (more : List Line) × HaveDifferentNames entries × (lines ++ more ≡ lines_of layout entries code)
+    (layout : Layout) × (entries : List Entry) × (code : List ℕ) × (more : List Line)
+    × HaveDifferentNames entries × (lines ++ more ≡ lines_of layout entries code)
 
--- lines that begin an image, none of them `end`, stand before line n, and rest is that line and what follows
+-- lines that begin an image, none of them `end`, stand before line n,
+-- and rest is that line and what follows
 pub record Reaches (text : List ℕ) (n : ℕ) (before : List Line) (rest : List ℕ) : Type 0 where
   pub number : n ≡ length before + 1
   pub spelled : text ≡ text_of before ++ rest
@@ -67,7 +69,8 @@ pub record IsTruncated (text : List ℕ) (n : ℕ) : Type 0 where
 abbrev pub IsOffset : ℕ → ℕ → Type 0
 IsOffset words offset = (offset % 4 ≡ 0) × (offset < 4 * words)
 
--- the text is an image's but for offsets, and line n is the first entry whose offset is not in the code
+-- the text is an image's but for offsets, and line n is the first
+-- entry whose offset is not in the code
 pub record IsBadOffset (text : List ℕ) (n : ℕ) : Type 0 where
   pub layout : Layout
   pub entries : List Entry
@@ -88,8 +91,3 @@ IsFault text (BadLine n) = IsBadLine text n
 IsFault text (BadOrder n) = IsMisplaced text n ⊎ IsBehindEnd text n
 IsFault text (BadOffset n) = IsBadOffset text n
 IsFault text (Truncated n) = IsTruncated text n
-
--- a refusal is want of memory, or a fault of which this holds
-abbrev pub ForFault : {F : Type 0} → OrMemory F → (F → Type 0) → Type 0
-ForFault Memory P = Unit {0}
-ForFault (Fault f) P = P f

@@ -1,14 +1,8 @@
 -- The fields of a line, each after one space.
-use Rattle.std.specs.Prelude.{ℕ, ◌/◌, ◌%◌, List, [], ◌∷◌}
+use Rattle.std.specs.Prelude.{ℕ, List, [], ◌∷◌}
 use Rattle.std.specs.List.{flat_map}
-use Rattle.br_image.specs.Text.{hex_digit, word_text}
-
--- the two digits of a byte
-abbrev pub byte_text : ℕ → List ℕ
-byte_text b = hex_digit (b / 16) ∷ hex_digit (b % 16) ∷ []
-
-abbrev pub bytes_text : List ℕ → List ℕ
-bytes_text bytes = flat_map byte_text bytes
+use Rattle.br_image.specs.Text.{word_text}
+use Rattle.br_bytes.specs.Hexadecimal.{bytes_text}
 
 -- a field of bytes, and no field where there are none
 abbrev pub bytes_field : List ℕ → List ℕ

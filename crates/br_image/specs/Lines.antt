@@ -34,7 +34,8 @@ IsLine layout (Count n) = n ≤ most_words layout
 IsLine layout (Word w) = w < 2 ^ 32
 IsLine layout End = Unit {0}
 
--- the layout of a text that begins with these lines: that of the first line, and the larger one where that tells none
+-- the layout of a text that begins with these lines: that of the first line,
+-- and the larger one where that tells none
 abbrev pub layout_after : List Line → Layout
 layout_after [] = Two
 layout_after (Header layout ∷ more) = layout
@@ -48,4 +49,5 @@ text_of lines = flat_map (λ l. line (line_text l)) lines
 
 -- the lines of an image with these parts
 abbrev pub lines_of : Layout → List Entry → List ℕ → List Line
-lines_of layout entries code = Header layout ∷ (map Function entries ++ Count (length code) ∷ (map Word code ++ End ∷ []))
+lines_of layout entries code =
+    Header layout ∷ (map Function entries ++ Count (length code) ∷ (map Word code ++ End ∷ []))

@@ -11,7 +11,9 @@ entry_lines entries = flat_map (λ e. line (entry_text e)) entries
 abbrev pub word_lines : List ℕ → List ℕ
 word_lines code = flat_map (λ w. line (word_text w)) code
 
--- the first line, a line for each entry, the number of words, a line for each word, and the last line
+-- the first line, a line for each entry, the number of words, a
+-- line for each word, and the last line
 unfoldable pub image_text : Image → List ℕ
 image_text i =
-    line (header_text i.layout) ++ entry_lines i.entries ++ line (code_text (length i.code)) ++ word_lines i.code ++ line (codes "end")
+    line (header_text i.layout) ++ entry_lines i.entries ++ line (code_text (length i.code))
+    ++ word_lines i.code ++ line (codes "end")

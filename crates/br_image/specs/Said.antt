@@ -1,5 +1,6 @@
 -- What lines of a script have said, and what was read of one.
-use Rattle.std.specs.Prelude.{ℕ, ◌≡◌, ◌≢◌, ◌+◌, ◌≤◌, List, [], ◌∷◌, ◌++◌, All, length, Option, Some, None}
+use Rattle.std.specs.Prelude.{ℕ, ◌≡◌, ◌≢◌, ◌+◌, ◌≤◌, List, [], ◌∷◌}
+use Rattle.std.specs.Prelude.{◌++◌, All, length, Option, Some, None}
 use Rattle.std.specs.List.{flat_map}
 use Rattle.br_words.specs.Layout.{stack_base}
 use Rattle.br_bytes.specs.declared.run.Choice.{Choice}
@@ -9,7 +10,8 @@ use Rattle.br_image.specs.declared.scripts.order.Part.{Part}
 use Rattle.br_image.specs.declared.scripts.order.Part.TheVariants.{One, Many}
 use Rattle.br_image.specs.declared.scripts.said.Said.{Said}
 use Rattle.br_image.specs.ScriptLines.{most_answers}
-use Rattle.br_image.specs.Scripts.{Fits, HasScript, call_in, args_in, mem_in, junk_in, choice_in, answers_in, limit_in}
+use Rattle.br_image.specs.Scripts.{Fits, HasScript, call_in, args_in, mem_in}
+use Rattle.br_image.specs.Scripts.{junk_in, choice_in, answers_in, limit_in}
 
 -- the last item, and this where there is none
 abbrev pub last_from : {X : Type 0} → Option X → List X → Option X
@@ -70,4 +72,5 @@ pub record HasSaid (parts : List Part) (text : List ℕ) (said : Said) (at : ℕ
 abbrev pub AreSound : List Part → Type 0
 AreSound [] = Unit {0}
 AreSound (One f ∷ parts) = AreSound parts
-AreSound (Many f ∷ parts) = (parts ≢ []) × All (λ p. (p ≢ One f) × (p ≢ Many f)) parts × AreSound parts
+AreSound (Many f ∷ parts) =
+    (parts ≢ []) × All (λ p. (p ≢ One f) × (p ≢ Many f)) parts × AreSound parts

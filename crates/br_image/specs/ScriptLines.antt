@@ -7,7 +7,9 @@ use Rattle.br_bytes.specs.declared.run.Choice.{Choice}
 use Rattle.br_image.specs.declared.scripts.lines.Form.{Form}
 use Rattle.br_image.specs.declared.scripts.lines.Form.TheVariants as form
 use Rattle.br_image.specs.declared.scripts.lines.ScriptLine.{ScriptLine}
-use Rattle.br_image.specs.declared.scripts.lines.ScriptLine.TheVariants.{Run, Interp, Call, Args, Mem, Junk, Choose, Answer, Limit, End}
+use Rattle.br_image.specs.declared.scripts.lines.ScriptLine.TheVariants.{Run, Interp, Call, Args}
+use Rattle.br_image.specs.declared.scripts.lines.ScriptLine.TheVariants.{Mem, Junk, Choose}
+use Rattle.br_image.specs.declared.scripts.lines.ScriptLine.TheVariants.{Answer, Limit, End}
 use Rattle.br_image.specs.Text.{word_text}
 use Rattle.br_image.specs.Fields.{bytes_field, word_fields}
 

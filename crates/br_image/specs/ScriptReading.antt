@@ -16,8 +16,10 @@ abbrev pub IsScriptLineOf : List ℕ → Option ScriptLine → Type 0
 IsScriptLineOf bytes (Some l) = IsScriptLine l × (bytes ≡ script_line_text l)
 IsScriptLineOf bytes None = (l : ScriptLine) → IsScriptLine l → bytes ≢ script_line_text l
 
--- the parts that may come after a line of this form, where the first of them or a later one takes it
+-- the parts that may come after a line of this form, where the
+-- first of them or a later one takes it
 abbrev pub Leaves : List Part → Form → List Part → Type 0
 Leaves [] f left = ⊥
 Leaves (One own ∷ parts) f left = (own ≡ f) × (left ≡ parts)
-Leaves (Many own ∷ parts) f left = ((own ≡ f) × (left ≡ Many own ∷ parts)) ⊎ ((own ≢ f) × Leaves parts f left)
+Leaves (Many own ∷ parts) f left =
+    ((own ≡ f) × (left ≡ Many own ∷ parts)) ⊎ ((own ≢ f) × Leaves parts f left)

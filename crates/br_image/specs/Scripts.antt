@@ -4,31 +4,37 @@ use Rattle.std.specs.List.{flat_map}
 use Rattle.br_bytes.specs.declared.run.Choice.{Choice}
 use Rattle.br_image.specs.declared.scripts.lines.Form.TheVariants as form
 use Rattle.br_image.specs.declared.scripts.lines.ScriptLine.{ScriptLine}
-use Rattle.br_image.specs.declared.scripts.lines.ScriptLine.TheVariants.{Call, Args, Mem, Junk, Choose, Answer, Limit}
+use Rattle.br_image.specs.declared.scripts.lines.ScriptLine.TheVariants.{Call, Args, Mem, Junk}
+use Rattle.br_image.specs.declared.scripts.lines.ScriptLine.TheVariants.{Choose, Answer, Limit}
 use Rattle.br_image.specs.declared.scripts.order.Part.{Part}
 use Rattle.br_image.specs.declared.scripts.order.Part.TheVariants.{One, Many}
 use Rattle.br_image.specs.declared.scripts.values.RunScript.{RunScript}
 use Rattle.br_image.specs.declared.scripts.values.InterpScript.{InterpScript}
 use Rattle.br_image.specs.declared.scripts.values.ScriptFault.{ScriptFault}
-use Rattle.br_image.specs.declared.scripts.values.ScriptFault.TheVariants.{BadScriptLine, ScriptEnds}
+use Rattle.br_image.specs.declared.scripts.values.ScriptFault.TheVariants.{BadScriptLine}
+use Rattle.br_image.specs.declared.scripts.values.ScriptFault.TheVariants.{ScriptEnds}
 use Rattle.br_image.specs.ScriptLines.{form_of, script_line_text, IsScriptLine, most_answers}
 use Rattle.br_image.specs.TextLines.{lines_text, IsWrongLine, IsCutOff}
 
 -- the parts of a run script, in order
 abbrev pub run_parts : List Part
 run_parts =
-    One form.Run ∷ One form.Call ∷ One form.Args ∷ Many form.Mem ∷ One form.Junk ∷ Many form.Answer ∷ One form.Limit ∷ One form.End ∷ []
+    One form.Run ∷ One form.Call ∷ One form.Args ∷ Many form.Mem ∷ One form.Junk ∷ Many form.Answer
+    ∷ One form.Limit ∷ One form.End ∷ []
 
 -- the parts of an interp script, in order
 abbrev pub interp_parts : List Part
 interp_parts =
-    One form.Interp ∷ One form.Call ∷ One form.Args ∷ Many form.Mem ∷ Many form.Choose ∷ Many form.Answer ∷ One form.Limit ∷ One form.End ∷ []
+    One form.Interp ∷ One form.Call ∷ One form.Args ∷ Many form.Mem ∷ Many form.Choose
+    ∷ Many form.Answer ∷ One form.Limit ∷ One form.End ∷ []
 
 -- lines in the order of these parts
 abbrev pub Fits : List Part → List ScriptLine → Type 0
 Fits [] lines = lines ≡ []
-Fits (One f ∷ parts) lines = (l : ScriptLine) × (more : List ScriptLine) × (lines ≡ l ∷ more) × (form_of l ≡ f) × Fits parts more
-Fits (Many f ∷ parts) lines = (own : List ScriptLine) × (more : List ScriptLine) × (lines ≡ own ++ more) × All (λ l. form_of l ≡ f) own × Fits parts more
+Fits (One f ∷ parts) lines = (l : ScriptLine) × (more : List ScriptLine) × (lines ≡ l ∷ more)
+    × (form_of l ≡ f) × Fits parts more
+Fits (Many f ∷ parts) lines = (own : List ScriptLine) × (more : List ScriptLine)
+    × (lines ≡ own ++ more) × All (λ l. form_of l ≡ f) own × Fits parts more
 
 -- ---- what lines say
 
@@ -80,7 +86,8 @@ pub record BeginsScript (parts : List Part) (lines : List ScriptLine) : Type 0 w
   pub limits : InScriptLimits lines
 
 -- the text is a script with these lines and what stands from `at` on
-pub record HasScript (parts : List Part) (text : List ℕ) (lines : List ScriptLine) (at : ℕ) : Type 0 where
+pub record HasScript (parts : List Part) (text : List ℕ) (lines : List ScriptLine)
+    (at : ℕ) : Type 0 where
   pub within : at ≤ length text
   pub spelled : text ≡ lines_text script_line_text lines ++ drop at text
   pub order : Fits parts lines
@@ -117,5 +124,7 @@ pub record IsInterpScript (text : List ℕ) (s : InterpScript) (at : ℕ) : Type
 
 -- why the text does not begin with a script of these parts
 abbrev pub IsScriptFault : List Part → List ℕ → ScriptFault → Type 0
-IsScriptFault parts text (BadScriptLine n) = IsWrongLine script_line_text (BeginsScript parts) (Fits parts) text n
-IsScriptFault parts text (ScriptEnds n) = IsCutOff script_line_text (BeginsScript parts) (Fits parts) text n
+IsScriptFault parts text (BadScriptLine n) =
+    IsWrongLine script_line_text (BeginsScript parts) (Fits parts) text n
+IsScriptFault parts text (ScriptEnds n) =
+    IsCutOff script_line_text (BeginsScript parts) (Fits parts) text n

@@ -1,5 +1,5 @@
 -- What lines of a trace text have shown.
-use Rattle.std.specs.Prelude.{ℕ, ◌≡◌, ◌+◌, ◌≤◌, List, ◌++◌, length}
+use Rattle.std.specs.Prelude.{◌≡◌, ◌+◌, ◌≤◌, List, ◌++◌, length}
 use Rattle.std.specs.List.{flat_map}
 use Rattle.br_words.specs.Layout.{stack_base}
 use Rattle.br_image.specs.declared.traces.lines.TraceLine.{TraceLine}

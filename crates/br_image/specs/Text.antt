@@ -1,19 +1,18 @@
 -- The lines of an image's text.
-use Rattle.std.specs.Prelude.{ℕ, ◌+◌, ◌/◌, ◌%◌, nat_lt, if◌then◌else◌, List, [], ◌∷◌, ◌++◌, codes}
+use Rattle.std.specs.Prelude.{ℕ, ◌/◌, ◌%◌, List, [], ◌∷◌, ◌++◌, codes}
 use Rattle.std.specs.Fmt.{decimal}
+use Rattle.br_words.specs.Hexadecimal.{hex_digit}
 use Rattle.br_words.specs.declared.layout.Layout.{Layout}
 use Rattle.br_words.specs.declared.layout.Layout.TheVariants.{One, Two}
 use Rattle.br_image.specs.declared.images.Entry.{Entry}
 
--- a lower-case hexadecimal digit
-abbrev pub hex_digit : ℕ → ℕ
-hex_digit d = if nat_lt d 10 then 48 + d else 87 + d
-
 -- the eight digits of a word
 abbrev pub word_text : ℕ → List ℕ
 word_text w =
-    hex_digit (w / 268435456 % 16) ∷ hex_digit (w / 16777216 % 16) ∷ hex_digit (w / 1048576 % 16) ∷ hex_digit (w / 65536 % 16)
-    ∷ hex_digit (w / 4096 % 16) ∷ hex_digit (w / 256 % 16) ∷ hex_digit (w / 16 % 16) ∷ hex_digit (w % 16) ∷ []
+    hex_digit (w / 268435456 % 16) ∷ hex_digit (w / 16777216 % 16) ∷ hex_digit (w / 1048576 % 16)
+    ∷ hex_digit (w / 65536 % 16)
+    ∷ hex_digit (w / 4096 % 16) ∷ hex_digit (w / 256 % 16) ∷ hex_digit (w / 16 % 16)
+    ∷ hex_digit (w % 16) ∷ []
 
 -- the version of the text
 abbrev pub version_text : Layout → List ℕ
@@ -27,7 +26,8 @@ header_text layout = codes "brimage " ++ version_text layout
 -- what stands in an entry's line, the fields parted by one space
 abbrev pub entry_text : Entry → List ℕ
 entry_text e =
-    codes "entry " ++ e.name ++ 32 ∷ decimal e.args ++ 32 ∷ decimal e.results ++ 32 ∷ decimal e.offset ++ 32 ∷ decimal e.need
+    codes "entry " ++ e.name ++ 32 ∷ decimal e.args ++ 32 ∷ decimal e.results
+    ++ 32 ∷ decimal e.offset ++ 32 ∷ decimal e.need
 
 -- what stands in the line that tells how many words follow
 abbrev pub code_text : ℕ → List ℕ

@@ -1,12 +1,14 @@
 -- The lines of trace texts: a first word, and fields that each follow one space.
-use Rattle.std.specs.Prelude.{ℕ, ◌≡◌, ◌<◌, ◌≤◌, ◌^◌, List, [], ◌∷◌, ◌++◌, All, codes, length}
-use Rattle.br_bytes.specs.declared.run.Choice.{Choice}
+use Rattle.std.specs.Prelude.{ℕ, ◌<◌, ◌≤◌, ◌^◌, List, [], ◌∷◌, ◌++◌, All, codes, length}
 use Rattle.br_image.specs.declared.traces.lines.Cause.{Cause}
-use Rattle.br_image.specs.declared.traces.lines.Cause.TheVariants.{Illegal, FetchOutside, FetchMisaligned, AccessOutside, DeviceAccess, CodeWrite}
+use Rattle.br_image.specs.declared.traces.lines.Cause.TheVariants.{Illegal, FetchOutside}
+use Rattle.br_image.specs.declared.traces.lines.Cause.TheVariants.{FetchMisaligned, AccessOutside}
+use Rattle.br_image.specs.declared.traces.lines.Cause.TheVariants.{DeviceAccess, CodeWrite}
 use Rattle.br_image.specs.declared.traces.lines.TraceForm.{TraceForm}
 use Rattle.br_image.specs.declared.traces.lines.TraceForm.TheVariants as form
 use Rattle.br_image.specs.declared.traces.lines.TraceLine.{TraceLine}
-use Rattle.br_image.specs.declared.traces.lines.TraceLine.TheVariants.{Read, Write, Halted, Waiting, Trapped, Running, Mem}
+use Rattle.br_image.specs.declared.traces.lines.TraceLine.TheVariants.{Read, Write, Halted, Waiting}
+use Rattle.br_image.specs.declared.traces.lines.TraceLine.TheVariants.{Trapped, Running, Mem}
 use Rattle.br_image.specs.Text.{word_text}
 use Rattle.br_image.specs.Fields.{word_fields}
 use Rattle.br_image.specs.ScriptLines.{range_fields, IsRange}

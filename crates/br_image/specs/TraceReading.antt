@@ -7,7 +7,8 @@ use Rattle.br_image.specs.TraceLines.{trace_form_of, trace_tail, trace_line_text
 -- the line of a form that has this after its first word, if there is one
 abbrev pub IsTraceContent : TraceForm → List ℕ → Option TraceLine → Type 0
 IsTraceContent f tail (Some l) = (trace_form_of l ≡ f) × IsTraceLine l × (tail ≡ trace_tail l)
-IsTraceContent f tail None = (l : TraceLine) → trace_form_of l ≡ f → IsTraceLine l → tail ≢ trace_tail l
+IsTraceContent f tail None = (l : TraceLine) → trace_form_of l ≡ f → IsTraceLine l
+    → tail ≢ trace_tail l
 
 -- the line that some bytes are, if they are one
 abbrev pub IsTraceLineOf : List ℕ → Option TraceLine → Type 0

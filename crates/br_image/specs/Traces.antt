@@ -1,4 +1,5 @@
--- Which lines trace texts have, what they tell, and what is wrong with bytes that are no trace text.
+-- Which lines trace texts have, what they tell, and what is
+-- wrong with bytes that are no trace text.
 use Rattle.std.specs.Prelude.{ℕ, ◌≡◌, ◌≢◌, ◌⊎◌, List, [], ◌∷◌, All}
 use Rattle.std.specs.List.{flat_map}
 use Rattle.br_bytes.specs.declared.run.Choice.{Choice}
@@ -8,7 +9,8 @@ use Rattle.br_image.specs.declared.traces.lines.Stage.{Stage}
 use Rattle.br_image.specs.declared.traces.lines.Stage.TheVariants.{Events, Memory, Over}
 use Rattle.br_image.specs.declared.traces.lines.TraceForm.TheVariants as form
 use Rattle.br_image.specs.declared.traces.lines.TraceLine.{TraceLine}
-use Rattle.br_image.specs.declared.traces.lines.TraceLine.TheVariants.{Read, Write, Halted, Waiting, Trapped, Running, Mem}
+use Rattle.br_image.specs.declared.traces.lines.TraceLine.TheVariants.{Read, Write, Halted, Waiting}
+use Rattle.br_image.specs.declared.traces.lines.TraceLine.TheVariants.{Trapped, Running, Mem}
 use Rattle.br_image.specs.declared.traces.reading.TraceFault.{TraceFault}
 use Rattle.br_image.specs.declared.traces.reading.TraceFault.TheVariants.{BadTraceLine}
 use Rattle.br_image.specs.TextLines.{lines_text, IsWrongLine, IsCutOff}
@@ -55,7 +57,8 @@ IsNever lines = ⊥
 -- why the text is no trace text: a line may not stand there, or has no line feed
 abbrev pub IsTraceFault : List ℕ → TraceFault → Type 0
 IsTraceFault text (BadTraceLine n) =
-    IsWrongLine trace_line_text IsTraceFront IsNever text n ⊎ ((c : IsCutOff trace_line_text IsTraceFront IsNever text n) × (c.rest ≢ []))
+    IsWrongLine trace_line_text IsTraceFront IsNever text n
+    ⊎ ((c : IsCutOff trace_line_text IsTraceFront IsNever text n) × (c.rest ≢ []))
 
 -- the stage that follows a stage and a line
 abbrev pub Steps : Stage → TraceLine → Stage → Type 0

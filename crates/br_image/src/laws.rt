@@ -15,7 +15,10 @@ pub fn two_images_have_two_texts()
 /// Each text is the text of an image or has a fault, and never both, and never two faults.
 #[tactic(auto, using(crate::proofs::Verdict::not_both, crate::proofs::Verdict::one_fault))]
 pub fn one_image_or_one_fault()
-    ensures either { (text : List ℕ) → ((i : Image) × (text ≡ image_text i)) ⊎ ((f : ImageFault) × IsFault text f) }
-    ensures not_both { (text : List ℕ) (i : Image) (f : ImageFault) → text ≡ image_text i → IsFault text f → ⊥ }
-    ensures one_fault { (text : List ℕ) (f g : ImageFault) → IsFault text f → IsFault text g → f ≡ g }
+    ensures either { (text : List ℕ) →
+        ((i : Image) × (text ≡ image_text i)) ⊎ ((f : ImageFault) × IsFault text f) }
+    ensures not_both { (text : List ℕ) (i : Image) (f : ImageFault) → text ≡ image_text i →
+        IsFault text f → ⊥ }
+    ensures one_fault { (text : List ℕ) (f g : ImageFault) → IsFault text f →
+        IsFault text g → f ≡ g }
 {}

@@ -1,6 +1,7 @@
 // Reading one line of an image's text.
 
-ghost use Rattle.std.specs.Prelude.{◌≡◌, ◌≢◌, ◌+◌, ◌*◌, ◌<◌, ◌≤◌, ◌^◌, ◌++◌, ◌∷◌, ℕ, List, IfSome, IfNone, IfOk, MatchOption, codes};
+ghost use Rattle.std.specs.Prelude.{◌≡◌, ◌≢◌, ◌+◌, ◌*◌, ◌<◌, ◌≤◌, ◌^◌, ◌++◌, ◌∷◌, ℕ};
+ghost use Rattle.std.specs.Prelude.{List, IfSome, IfNone, IfOk, MatchOption, codes};
 ghost use Rattle.std.specs.Fmt.{decimal};
 ghost use Rattle.std.specs.Str.Parse.{AllDigits, digits_value};
 ghost use Rattle.br_words.specs.declared.layout.Layout.{Layout};
@@ -19,7 +20,7 @@ use br_base::{Name, NoMemory};
 use br_words::{Layout, STACK_BASE, STACK_END};
 use std::alloc::Global;
 
-/// The most bytes of stack that an entry may state: the stack region.
+// The most bytes of stack that an entry may state: the stack region.
 const MOST_STACK: u32 = STACK_END - STACK_BASE;
 
 /// The line that these bytes are in a text whose layout is this. None where they are of none of the
@@ -37,7 +38,7 @@ pub(crate) fn parse_line(
     }
 }
 
-/// The line that bytes with no space in them are.
+// The line that bytes with no space in them are.
 fn parse_single(bytes: &[u8]) -> Option<Line>
     requires { Lacks 32 bytes.now }
     ensures { (layout : Layout) → IsLineOf layout bytes.now result }
@@ -48,7 +49,7 @@ fn parse_single(bytes: &[u8]) -> Option<Line>
     parse_word(bytes).map(Line::Word)
 }
 
-/// The line that begins with this word and a space, and goes on with the rest.
+// The line that begins with this word and a space, and goes on with the rest.
 fn parse_worded(
     alloc: Global,
     layout: Layout,
@@ -70,7 +71,7 @@ fn parse_worded(
     Ok(None)
 }
 
-/// The line whose first word is `brimage`.
+// The line whose first word is `brimage`.
 fn parse_version(rest: &[u8]) -> Option<Line>
     ensures { (layout : Layout) → IsLineOf layout (codes "brimage" ++ 32 ∷ rest.now) result }
 {
@@ -83,10 +84,11 @@ fn parse_version(rest: &[u8]) -> Option<Line>
     None
 }
 
-/// The entry whose name and numbers these bytes are, with one space between two of them.
+// The entry whose name and numbers these bytes are, with one space between two of them.
 fn parse_entry(alloc: Global, bytes: &[u8]) -> Result<Option<Entry>, NoMemory>
     ensures found { IfOk result (λ o. IfSome o (λ e. IsEntryLine e × (bytes.now ≡ fields_text e))) }
-    ensures none { IfOk result (λ o. IfNone o ((e : Entry) → IsEntryLine e → bytes.now ≢ fields_text e)) }
+    ensures none { IfOk result
+        (λ o. IfNone o ((e : Entry) → IsEntryLine e → bytes.now ≢ fields_text e)) }
 {
     let Some((name, rest)) = cut(bytes, b' ') else {
         return Ok(None);
@@ -116,9 +118,11 @@ struct Numbers {
 }
 
 fn parse_numbers(bytes: &[u8]) -> Option<Numbers>
-    ensures ranges { IfSome result (λ n. (n.args ≤ 8) × (n.results ≤ 8) × (n.offset < 4 * most_words Two) × (n.need ≤ most_stack)) }
+    ensures ranges { IfSome result (λ n. (n.args ≤ 8) × (n.results ≤ 8)
+        × (n.offset < 4 * most_words Two) × (n.need ≤ most_stack)) }
     ensures found { IfSome result (λ n. bytes.now ≡ numbers_text n.args n.results n.offset n.need) }
-    ensures none { IfNone result ((a r o n : ℕ) → a ≤ 8 → r ≤ 8 → o < 4 * most_words Two → n ≤ most_stack → bytes.now ≢ numbers_text a r o n) }
+    ensures none { IfNone result ((a r o n : ℕ) → a ≤ 8 → r ≤ 8 → o < 4 * most_words Two →
+        n ≤ most_stack → bytes.now ≢ numbers_text a r o n) }
 {
     let (args, rest) = parse_field(bytes, 8)?;
     let (results, rest) = parse_field(rest, 8)?;
@@ -132,10 +136,11 @@ fn parse_numbers(bytes: &[u8]) -> Option<Numbers>
     })
 }
 
-/// A number and the space after it, and what follows.
+// A number and the space after it, and what follows.
 fn parse_field(bytes: &[u8], most: u32) -> Option<(u32, &[u8])>
     ensures found { IfSome result (λ p. (p.0 ≤ most) × (bytes.now ≡ decimal p.0 ++ 32 ∷ p.1.now)) }
-    ensures none { IfNone result ((n : ℕ) (rest : List ℕ) → n ≤ most → bytes.now ≢ decimal n ++ 32 ∷ rest) }
+    ensures none { IfNone result
+        ((n : ℕ) (rest : List ℕ) → n ≤ most → bytes.now ≢ decimal n ++ 32 ∷ rest) }
 {
     let (digits, rest) = cut(bytes, b' ')?;
     let number = parse_number(digits, most)?;
@@ -144,7 +149,8 @@ fn parse_field(bytes: &[u8], most: u32) -> Option<(u32, &[u8])>
 
 /// What stands before the first separator, and what stands after it.
 pub(crate) fn cut(bytes: &[u8], separator: u8) -> Option<(&[u8], &[u8])>
-    ensures found { IfSome result (λ p. (bytes.now ≡ p.0.now ++ separator ∷ p.1.now) × Lacks separator p.0.now) }
+    ensures found { IfSome result
+        (λ p. (bytes.now ≡ p.0.now ++ separator ∷ p.1.now) × Lacks separator p.0.now) }
     ensures none { IfNone result (Lacks separator bytes.now) }
 {
     let at = bytes.iter().position(|b| *b == separator)?;
@@ -181,7 +187,8 @@ pub(crate) fn parse_number(digits: &[u8], most: u32) -> Option<u32>
 
 #[tactic(auto, using(crate::proofs::Decoding::number_steps))]
 fn value_of(digits: &[u8], most: u32) -> Option<u32>
-    ensures found { IfSome result (λ n. (n ≤ most) × AllDigits 10 digits.now × (digits_value 10 digits.now ≡ n)) }
+    ensures found { IfSome result
+        (λ n. (n ≤ most) × AllDigits 10 digits.now × (digits_value 10 digits.now ≡ n)) }
     ensures none { IfNone result (AllDigits 10 digits.now → most < digits_value 10 digits.now) }
 {
     let mut value = 0u64;

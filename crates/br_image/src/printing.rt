@@ -10,9 +10,10 @@ use br_base::NoMemory;
 use br_words::Layout;
 use std::alloc::Global;
 
-/// The text of an image: `brimage 1` for layout One or `brimage 2` for layout Two, a line `entry NAME ARGS RESULTS OFFSET NEED` for each
-/// function, `code N`, the N words of code in a line each, and `end`. Each line ends in one line
-/// feed. Numbers are decimal, and words are eight hexadecimal digits in lower case.
+/// The text of an image: `brimage 1` for layout One or `brimage 2` for layout Two, a line
+/// `entry NAME ARGS RESULTS OFFSET NEED` for each function, `code N`, the N words of code in a
+/// line each, and `end`. Each line ends in one line feed. Numbers are decimal, and words are
+/// eight hexadecimal digits in lower case.
 #[tactic(auto, unfolding(crate::specs::Printed::image_text))]
 pub fn print(alloc: Global, image: &Image) -> Result<Vec<u8>, NoMemory>
     ensures { IfOk result (λ text. text.items ≡ image_text image.now) }

@@ -1,6 +1,8 @@
 // Reading the text of an image.
 
-ghost use Rattle.std.specs.Prelude.{◌≡◌, ◌≢◌, ◌+◌, ◌*◌, ◌<◌, ◌≤◌, ◌^◌, ◌++◌, ◌∷◌, ◌↔◌, [], ℕ, List, length, drop, take, All, Any, IsTrue, IsErr, IfOk, IfErr, IfSome, IfNone, MatchOption, MatchResult, slice_get, Some};
+ghost use Rattle.std.specs.Prelude.{◌≡◌, ◌≢◌, ◌+◌, ◌*◌, ◌<◌, ◌≤◌, ◌^◌, ◌++◌, ◌∷◌, ◌↔◌, [], ℕ, List};
+ghost use Rattle.std.specs.Prelude.{length, drop, take, All, Any, IsTrue, IsErr, IfOk, IfErr};
+ghost use Rattle.std.specs.Prelude.{IfSome, IfNone, MatchOption, MatchResult, slice_get, Some};
 ghost use Rattle.br_base.specs.declared.failure.OrMemory.TheVariants.{Memory};
 ghost use Rattle.br_words.specs.declared.layout.Layout.{Layout};
 ghost use Rattle.br_words.specs.declared.layout.Layout.TheVariants.{Two};
@@ -12,7 +14,8 @@ ghost use Rattle.br_image.specs.declared.faults.ImageFault.{ImageFault};
 ghost use Rattle.br_image.specs.Text.{line};
 ghost use Rattle.br_image.specs.Lines.{IsLine, line_text, text_of, lines_of};
 ghost use Rattle.br_image.specs.Printed.{image_text};
-ghost use Rattle.br_image.specs.Faults.{IsFault, IsOffset, ForFault};
+ghost use Rattle.br_image.specs.Faults.{IsFault, IsOffset};
+ghost use Rattle.br_base.specs.Faults.{IfFault};
 ghost use Rattle.br_image.specs.Reading.{IsLineFault, EntriesRead, WordsRead, IsFirstBad};
 
 use crate::faults::ImageFault;
@@ -25,7 +28,7 @@ use sqlite_items::Items;
 use std::alloc::Global;
 use std::collections::BTreeSet;
 
-/// The line that begins at a place of a text whose layout is this, and the place after it.
+// The line that begins at a place of a text whose layout is this, and the place after it.
 fn line_at(
     alloc: Global,
     layout: Layout,
@@ -35,9 +38,10 @@ fn line_at(
 ) -> Result<(Line, usize), OrMemory<ImageFault>>
     requires { at ≤ length text.now }
     ensures form { IfOk result (λ p. IsLine layout p.0) }
-    ensures found { IfOk result (λ p. drop at text.now ≡ line (line_text p.0) ++ drop p.1 text.now) }
+    ensures found { IfOk result
+        (λ p. drop at text.now ≡ line (line_text p.0) ++ drop p.1 text.now) }
     ensures place { IfOk result (λ p. (at < p.1) × (p.1 ≤ length text.now)) }
-    ensures refused { IfErr result (λ e. ForFault e (IsLineFault layout number (drop at text.now))) }
+    ensures refused { IfErr result (λ e. IfFault e (IsLineFault layout number (drop at text.now))) }
 {
     let Some((bytes, _)) = cut(&text[at..], b'\n') else {
         return Err(OrMemory::Fault(ImageFault::Truncated(number)));
@@ -57,7 +61,7 @@ struct Head {
     at: usize,
 }
 
-/// The entries and the number of words, from the place after the first line.
+// The entries and the number of words, from the place after the first line.
 fn read_head(
     alloc: Global,
     layout: Layout,
@@ -67,7 +71,7 @@ fn read_head(
     requires begun { EntriesRead layout text.now [] start }
     requires short { length text.now ≤ 1073741824 }
     ensures read { IfOk result (λ h. WordsRead layout text.now h.entries h.count [] h.at) }
-    ensures refused { IfErr result (λ e. ForFault e (IsFault text.now)) }
+    ensures refused { IfErr result (λ e. IfFault e (IsFault text.now)) }
 {
     let mut entries = Items::new(alloc);
     let mut names = BTreeSet::new(alloc);
@@ -89,7 +93,7 @@ fn read_head(
     }
 }
 
-/// The words of code that stand after the head, and where they end.
+// The words of code that stand after the head, and where they end.
 fn read_words(
     alloc: Global,
     layout: Layout,
@@ -98,9 +102,10 @@ fn read_words(
 ) -> Result<(Items<u32>, usize), OrMemory<ImageFault>>
     requires begun { WordsRead layout text.now head.now.entries head.now.count [] head.now.at }
     requires short { length text.now ≤ 1073741824 }
-    ensures read { IfOk result (λ p. WordsRead layout text.now head.now.entries head.now.count p.0 p.1) }
+    ensures read { IfOk result
+        (λ p. WordsRead layout text.now head.now.entries head.now.count p.0 p.1) }
     ensures all { IfOk result (λ p. length p.0 ≡ head.now.count) }
-    ensures refused { IfErr result (λ e. ForFault e (IsFault text.now)) }
+    ensures refused { IfErr result (λ e. IfFault e (IsFault text.now)) }
 {
     let mut code = Items::new(alloc);
     let mut at = head.at;
@@ -116,7 +121,7 @@ fn read_words(
     Ok((code, at))
 }
 
-/// The line `end`, with nothing after it, where all words were read.
+// The line `end`, with nothing after it, where all words were read.
 fn read_end(
     alloc: Global,
     layout: Layout,
@@ -128,7 +133,7 @@ fn read_end(
     requires begun { WordsRead layout text.now entries.now (length code.now) code.now at }
     requires short { length text.now ≤ 1073741824 }
     ensures read { IfOk result (λ _. text.now ≡ text_of (lines_of layout entries.now code.now)) }
-    ensures refused { IfErr result (λ e. ForFault e (IsFault text.now)) }
+    ensures refused { IfErr result (λ e. IfFault e (IsFault text.now)) }
 {
     let number = (entries.len() + code.len()) as u32 + 3;
     let (line, next) = line_at(alloc, layout, text, at, number)?;
@@ -141,7 +146,7 @@ fn read_end(
     Ok(())
 }
 
-/// The first entry whose offset is not in the code of so many words.
+// The first entry whose offset is not in the code of so many words.
 fn bad_offset(entries: &[Entry], words: usize) -> Option<usize>
     requires { words ≤ most_words Two }
     ensures none { IfNone result (All (λ e. IsOffset words e.offset) entries.now) }
@@ -162,21 +167,23 @@ pub fn read(alloc: Global, text: &[u8]) -> Result<Image, OrMemory<ImageFault>>
     requires { length text.now ≤ 1073741824 }
     // What is read has this text, and what is refused has the fault.
     ensures image { IfOk result (λ i. text.now ≡ image_text i) }
-    ensures refused { IfErr result (λ e. ForFault e (IsFault text.now)) }
+    ensures refused { IfErr result (λ e. IfFault e (IsFault text.now)) }
 
     // The text of an image is read as that image, and a text with a fault is refused for it,
     // unless there is no memory.
-    ensures each_image { (i : Image) → text.now ≡ image_text i → MatchResult result (λ j. j ≡ i) (λ e. e ≡ Memory) }
-    ensures each_fault { (f : ImageFault) → IsFault text.now f → MatchResult result (λ _. ⊥) (λ e. ForFault e (λ g. g ≡ f)) }
+    ensures each_image { (i : Image) → text.now ≡ image_text i →
+        MatchResult result (λ j. j ≡ i) (λ e. e ≡ Memory) }
+    ensures each_fault { (f : ImageFault) → IsFault text.now f →
+        MatchResult result (λ _. ⊥) (λ e. IfFault e (λ g. g ≡ f)) }
 {
     read_image(alloc, text)
 }
 
-/// The image that a text is the text of, or the fault.
+// The image that a text is the text of, or the fault.
 fn read_image(alloc: Global, text: &[u8]) -> Result<Image, OrMemory<ImageFault>>
     requires { length text.now ≤ 1073741824 }
     ensures image { IfOk result (λ i. text.now ≡ image_text i) }
-    ensures refused { IfErr result (λ e. ForFault e (IsFault text.now)) }
+    ensures refused { IfErr result (λ e. IfFault e (IsFault text.now)) }
 {
     let (line, at) = line_at(alloc, Layout::Two, text, 0, 1)?;
     let Line::Header(layout) = line else {

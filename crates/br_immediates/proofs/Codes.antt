@@ -8,10 +8,15 @@ use Rattle.br_flatimp.specs.declared.program.Operand.{Operand}
 use Rattle.br_flatimp.specs.declared.program.Stmt.{Stmt, map-Stmt}
 use Rattle.br_flatimp.specs.declared.program.Stmt.TheOpen.{Stmt-F}
 use Rattle.br_flatimp.specs.declared.program.Stmt.TheViews.{roll-Stmt}
-use Rattle.br_flatimp.specs.declared.program.Stmt.TheVariants.{Lit, Copy, Op, Load, Store, Table, Stackalloc, If, Loop, Call, Read, Write, rolls-Lit, rolls-Copy, rolls-Op, rolls-Load, rolls-Store, rolls-Table, rolls-Stackalloc, rolls-If, rolls-Loop, rolls-Call, rolls-Read, rolls-Write}
+use Rattle.br_flatimp.specs.declared.program.Stmt.TheVariants.{Lit, Copy, Op, Load, Store, Table, Stackalloc}
+use Rattle.br_flatimp.specs.declared.program.Stmt.TheVariants.{If, Loop, Call, Read, Write, rolls-Lit}
+use Rattle.br_flatimp.specs.declared.program.Stmt.TheVariants.{rolls-Copy, rolls-Op, rolls-Load, rolls-Store}
+use Rattle.br_flatimp.specs.declared.program.Stmt.TheVariants.{rolls-Table, rolls-Stackalloc, rolls-If}
+use Rattle.br_flatimp.specs.declared.program.Stmt.TheVariants.{rolls-Loop, rolls-Call, rolls-Read, rolls-Write}
 use Rattle.br_flatimp.specs.declared.program.Stmt.TheFolds.{fold-roll-Stmt}
 use Rattle.br_flatimp.specs.Parts.{parts, throughout}
-use Rattle.br_immediates.specs.Immediates.{Literals, no_literals, with_literal, literals_after, with_constant, turn, Turn, with_constants, literal_fits}
+use Rattle.br_immediates.specs.Immediates.{Literals, no_literals, with_literal, literals_after}
+use Rattle.br_immediates.specs.Immediates.{with_constant, turn, Turn, with_constants, literal_fits}
 use Rattle.br_immediates.proofs.Turns.{layer, turn-roll, made-roll}
 
 -- from one layer to what stands for it and what is known after it

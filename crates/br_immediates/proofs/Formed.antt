@@ -1,5 +1,6 @@
 -- Programs with constants are well formed where those are that they come from.
-use Rattle.std.proofs.Common.{◌≡◌, ℕ, zero, suc, ◌&&◌, Bool, true, false, if◌then◌else◌, nat_lt, List, [], ◌∷◌, map, length, Option, Some, None, refl, sym, ap, subst, ◌∙◌, slice_get}
+use Rattle.std.proofs.Common.{◌≡◌, ℕ, zero, suc, ◌&&◌, Bool, true, false, if◌then◌else◌, nat_lt, List, []}
+use Rattle.std.proofs.Common.{◌∷◌, map, length, Option, Some, None, refl, sym, ap, subst, ◌∙◌, slice_get}
 use mathlib.Core.Path.{fun_ext}
 use Rattle.std.specs.List.{list_all, list_any}
 use Rattle.std.specs.Str.{bytes_eq}
@@ -12,8 +13,11 @@ use Rattle.br_flatimp.specs.declared.program.Stmt.TheOpen.{Stmt-F}
 use Rattle.br_flatimp.specs.declared.program.Stmt.TheFolds.{fold-roll-Stmt, ind-Stmt}
 use Rattle.br_flatimp.specs.declared.program.FlatFunc.{FlatFunc}
 use Rattle.br_flatimp.specs.Parts.{parts, operand_names, throughout}
-use Rattle.br_flatimp.specs.WellFormed.{fits_operation, operand_fits, are_below, all_differ, counts_fit, fits, is_well_formed_statement, is_well_formed_head, is_well_formed_function, names_differ, IsWellFormed}
-use Rattle.br_immediates.specs.Immediates.{Literals, no_literals, operand_of, with_constant, made_all, turn, with_constants, function_with_constants, program_with_constants}
+use Rattle.br_flatimp.specs.WellFormed.{fits_operation, operand_fits, are_below, all_differ, counts_fit}
+use Rattle.br_flatimp.specs.WellFormed.{fits, is_well_formed_statement, is_well_formed_head}
+use Rattle.br_flatimp.specs.WellFormed.{is_well_formed_function, names_differ, IsWellFormed}
+use Rattle.br_immediates.specs.Immediates.{Literals, no_literals, operand_of, with_constant, made_all, turn}
+use Rattle.br_immediates.specs.Immediates.{with_constants, function_with_constants, program_with_constants}
 use Rattle.br_immediates.proofs.Turns.{layer, fold-made}
 use Rattle.br_immediates.proofs.Runs.{and-first, and-second}
 

@@ -1,5 +1,6 @@
 -- No operand of a program with constants is missed.
-use Rattle.std.proofs.Common.{◌≡◌, ℕ, ◌||◌, Bool, true, false, if◌then◌else◌, List, [], ◌∷◌, map, Option, Some, None, refl, sym, ap, subst, ◌∙◌}
+use Rattle.std.proofs.Common.{◌≡◌, ℕ, ◌||◌, Bool, true, false, if◌then◌else◌, List, []}
+use Rattle.std.proofs.Common.{◌∷◌, map, Option, Some, None, refl, sym, ap, subst, ◌∙◌}
 use Rattle.std.specs.List.{list_all, list_any}
 use Rattle.br_words.specs.Words.{signed}
 use Rattle.br_words.specs.declared.operation.BinOp.{BinOp}
@@ -13,8 +14,10 @@ use Rattle.br_flatimp.specs.declared.program.FlatFunc.{FlatFunc}
 use Rattle.br_flatimp.specs.Parts.{written, parts}
 use Rattle.br_flatimp.specs.Liveness.{is_in}
 use Rattle.br_flatimp.specs.WellFormed.{fits_operation}
-use Rattle.br_flatimp.specs.Missed.{Shown, is_straight, literal, name_operand, literal_of, fits_literal, is_missed, misses_after, shown_step, shown, has_no_missed}
-use Rattle.br_immediates.specs.Immediates.{Literals, no_literals, literals_after, operand_of, with_constant, Turn, made_all, turn, with_constants, program_with_constants}
+use Rattle.br_flatimp.specs.Missed.{Shown, is_straight, literal, name_operand, literal_of, fits_literal}
+use Rattle.br_flatimp.specs.Missed.{is_missed, misses_after, shown_step, shown, has_no_missed}
+use Rattle.br_immediates.specs.Immediates.{Literals, no_literals, literals_after, operand_of, with_constant}
+use Rattle.br_immediates.specs.Immediates.{Turn, made_all, turn, with_constants, program_with_constants}
 use Rattle.br_immediates.proofs.Turns.{layer, turn-roll, fold-made}
 
 -- the known literals are those that a list shows looking back

@@ -1,5 +1,7 @@
 -- Statements with constants run as those that they come from, where the known literals hold.
-use Rattle.std.proofs.Common.{◌≡◌, ℕ, zero, suc, ◌-◌, ◌%◌, ◌^◌, ◌<◌, ◌==◌, ◌&&◌, ◌||◌, Bool, true, false, if◌then◌else◌, List, [], ◌∷◌, map, Option, Some, None, inl, inr, pos, negsuc, nat_lt, refl, sym, ap, subst, ◌∙◌, arith, slice_get}
+use Rattle.std.proofs.Common.{◌≡◌, ℕ, zero, suc, ◌-◌, ◌%◌, ◌^◌, ◌<◌, ◌==◌, ◌&&◌, ◌||◌, Bool, true}
+use Rattle.std.proofs.Common.{false, if◌then◌else◌, List, [], ◌∷◌, map, Option, Some, None, inl}
+use Rattle.std.proofs.Common.{inr, pos, negsuc, nat_lt, refl, sym, ap, subst, ◌∙◌, arith, slice_get}
 use mathlib.Core.Path.{fun_ext}
 use Rattle.std.specs.FinMap as map
 use Rattle.std.specs.Bool.{⊤}
@@ -15,7 +17,8 @@ use Rattle.br_bytes.specs.Memory.{Memory, get_number, put_number}
 use Rattle.br_bytes.specs.Buffers.{table_number}
 use Rattle.br_bytes.specs.Called.{Called}
 use Rattle.br_bytes.specs.Runs as runs
-use Rattle.br_bytes.specs.Runs.{Goes, Ends, Undefined, then_do, in_turn, with_defined, choose, with_buffer, loop, read_device, write_device, happens, returned, seen}
+use Rattle.br_bytes.specs.Runs.{Goes, Ends, Undefined, then_do, in_turn, with_defined, choose}
+use Rattle.br_bytes.specs.Runs.{with_buffer, loop, read_device, write_device, happens, returned, seen}
 use Rattle.br_flatimp.specs.declared.program.Operand.{Operand}
 use Rattle.br_flatimp.specs.declared.program.Operand.TheVariants as operand
 use Rattle.br_flatimp.specs.declared.program.Stmt.{Stmt, map-Stmt}
@@ -24,12 +27,16 @@ use Rattle.br_flatimp.specs.declared.program.Stmt.TheViews.{roll-Stmt}
 use Rattle.br_flatimp.specs.declared.program.Stmt.TheFolds.{fold-roll-Stmt, ind-Stmt}
 use Rattle.br_flatimp.specs.declared.program.FlatFunc.{FlatFunc}
 use Rattle.br_flatimp.specs.Parts.{parts, throughout}
-use Rattle.br_flatimp.specs.Values.{Locals, no_locals, with_local, with_locals, words_of, operand_word, moved, test_word}
+use Rattle.br_flatimp.specs.Values.{Locals, no_locals, with_local, with_locals}
+use Rattle.br_flatimp.specs.Values.{words_of, operand_word, moved, test_word}
 use Rattle.br_flatimp.specs.WellFormed.{fits_operation}
-use Rattle.br_flatimp.specs.Runs.{State, Run, Callee, Forgets, forgets_none, set_to, statement_step, run, run_all, run_function, enter, function_of, begin}
+use Rattle.br_flatimp.specs.Runs.{State, Run, Callee, Forgets, forgets_none, set_to, statement_step}
+use Rattle.br_flatimp.specs.Runs.{run, run_all, run_function, enter, function_of, begin}
 use Rattle.br_flatimp.specs.Matches.{IsSameDefined}
 use Rattle.br_flatimp.specs.Refines.{Refines, signature, meaning}
-use Rattle.br_immediates.specs.Immediates.{Literals, no_literals, literals_after, operand_of, with_constant, made_all, turn, with_constants, function_with_constants, program_with_constants, is_word, literal_fits, function_literals_fit}
+use Rattle.br_immediates.specs.Immediates.{Literals, no_literals, literals_after, operand_of, with_constant}
+use Rattle.br_immediates.specs.Immediates.{made_all, turn, with_constants, function_with_constants}
+use Rattle.br_immediates.specs.Immediates.{program_with_constants, is_word, literal_fits, function_literals_fit}
 use Rattle.br_immediates.proofs.Turns.{layer, turn-roll, fold-made}
 
 -- ---- what is known

@@ -4,7 +4,8 @@ use Rattle.br_flatimp.specs.declared.program.Stmt.{Stmt, map-Stmt}
 use Rattle.br_flatimp.specs.declared.program.Stmt.TheOpen.{Stmt-F}
 use Rattle.br_flatimp.specs.declared.program.Stmt.TheViews.{roll-Stmt}
 use Rattle.br_flatimp.specs.declared.program.Stmt.TheFolds.{fold-Stmt, fold-roll-Stmt, ind-Stmt}
-use Rattle.br_immediates.specs.Immediates.{Literals, no_literals, with_operand, with_parts, Turn, made_all, turn_step, turn, with_constants}
+use Rattle.br_immediates.specs.Immediates.{Literals, no_literals, with_operand, with_parts}
+use Rattle.br_immediates.specs.Immediates.{Turn, made_all, turn_step, turn, with_constants}
 
 -- a statement that is made, one layer of it
 abbrev pub layer : Literals → Stmt-F Stmt → Stmt-F Stmt

@@ -1,5 +1,5 @@
-// What holds of programs with constants in place of names. These functions do nothing: each contract
-// is a law of the definitions.
+// What holds of programs with constants in place of names. These functions do nothing: each
+// contract is a law of the definitions.
 
 ghost use Rattle.std.specs.Prelude.{◌≡◌, List, true};
 ghost use Rattle.std.specs.List.{list_all};

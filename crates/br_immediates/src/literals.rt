@@ -1,12 +1,12 @@
 // The words that literals gave names.
 
 ghost use Rattle.std.specs.Prelude.{◌≡◌, OnOk, None, Some};
-ghost use Rattle.br_flatimp.specs.WellFormed.{fits_operation};
-ghost use Rattle.br_immediates.specs.Immediates.{no_literals, operand_of, turn, with_constant, with_literal};
+ghost use Rattle.br_immediates.specs.Immediates.{no_literals, operand_of, turn};
+ghost use Rattle.br_immediates.specs.Immediates.{with_constant, with_literal};
 ghost use Rattle.br_immediates.specs.Tables.{literals_of};
 
 use br_base::NoMemory;
-use br_flatimp::{Operand, Stmt};
+use br_flatimp::{Operand, Stmt, constant_fits};
 use br_words::BinOp;
 use std::alloc::Global;
 use std::collections::BTreeMap;
@@ -86,24 +86,11 @@ fn operand_of(op: BinOp, y: u32, word: Option<u32>) -> Operand
 {
     match word {
         Some(n) => {
-            if fits(op, n.cast_signed()) {
+            if constant_fits(op, n.cast_signed()) {
                 return Operand::Const(n.cast_signed());
             }
             Operand::Name(y)
         }
         None => Operand::Name(y),
-    }
-}
-
-fn fits(op: BinOp, c: i32) -> bool
-    ensures { result ≡ fits_operation op c }
-{
-    match op {
-        BinOp::Add | BinOp::And | BinOp::Or | BinOp::Xor | BinOp::Lts | BinOp::Ltu | BinOp::Eq => {
-            -2048 <= c && c <= 2047
-        }
-        BinOp::Sub => -2047 <= c && c <= 2048,
-        BinOp::Sru | BinOp::Slu | BinOp::Srs => 0 <= c && c <= 31,
-        BinOp::Mul | BinOp::Mulhuu | BinOp::Divu | BinOp::Remu => false,
     }
 }

@@ -6,7 +6,8 @@ ghost use Rattle.br_flatimp.specs.Missed.{has_no_missed};
 ghost use Rattle.br_flatimp.specs.Refines.{Refines, meaning};
 ghost use Rattle.br_flatimp.specs.Sizes.{Kept};
 ghost use Rattle.br_flatimp.specs.WellFormed.{IsWellFormed};
-ghost use Rattle.br_immediates.specs.Immediates.{function_literals_fit, function_with_constants, program_with_constants};
+ghost use Rattle.br_immediates.specs.Immediates.{function_literals_fit, function_with_constants};
+ghost use Rattle.br_immediates.specs.Immediates.{program_with_constants};
 
 use crate::bodies::statements;
 use crate::laws::{
@@ -19,9 +20,9 @@ use sqlite_items::Items;
 use std::alloc::Global;
 
 /// A program with constants in place of names: where an operation's second operand is a name that a
-/// literal set before in the same list, the statements between are straight and do not write it, and
-/// the literal, as a signed number, fits the operation. No such name is left. The program means the
-/// same, and its sizes and callees stay. Answers want of memory alone.
+/// literal set before in the same list, the statements between are straight and do not write it,
+/// and the literal, as a signed number, fits the operation. No such name is left. The program means
+/// the same, and its sizes and callees stay. Answers want of memory alone.
 pub fn use_immediates(alloc: Global, p: FlatProgram) -> Result<FlatProgram, NoMemory>
     requires { IsWellFormed p.funcs }
     ensures program { IfOk result (λ q. q.funcs ≡ program_with_constants p.funcs) }

@@ -1,5 +1,7 @@
 -- Something may follow at each place but the one outside, and what a judge stands for after an event.
-use Rattle.std.proofs.Common.{◌≡◌, ◌≢◌, ◌⊎◌, inl, inr, ◌↔◌, ℕ, zero, suc, ◌^◌, ◌≤◌, Bool, true, false, not, IsTrue, List, [], ◌∷◌, ◌++◌, Option, Some, None, refl, sym, ap, subst, ◌∙◌, arith, append_assoc, append-nil, lit≤, ◌==◌}
+use Rattle.std.proofs.Common.{◌≡◌, ◌≢◌, ◌⊎◌, inl, inr, ◌↔◌, ℕ, zero, suc, ◌^◌, ◌≤◌, Bool, true}
+use Rattle.std.proofs.Common.{false, not, IsTrue, List, [], ◌∷◌, ◌++◌, Option, Some, None, refl}
+use Rattle.std.proofs.Common.{sym, ap, subst, ◌∙◌, arith, append_assoc, append-nil, lit≤, ◌==◌}
 use Rattle.std.proofs.lemmas.Bool.Decides.{eqb_tells}
 use Rattle.br_bytes.specs.declared.run.Event.{Event}
 use Rattle.br_bytes.specs.declared.run.Event.TheVariants.{Read, Write}
@@ -13,8 +15,12 @@ use Rattle.br_judge.specs.declared.place.Purpose.TheVariants.{Ask, Begin, Poll, 
 use Rattle.br_judge.specs.declared.place.Place.{Place}
 use Rattle.br_judge.specs.declared.place.Place.TheVariants as place
 use Rattle.br_judge.specs.Languages.{Language, ◌▸◌, nothing, event, times}
-use Rattle.br_judge.specs.Good.{TX, RX, CS, EN, OUT, busy, chip_is_ready, words_for, frame_length, with_light, set_light, poll, Good, BeginsGood}
-use Rattle.br_judge.specs.Places.{Piece, joined, waiting, receiving, received, may_send, exchanging, after_byte, transferring, transfer, bytes_for, after, asking, asked, begun, reading, after_frame, after_word, with_word, begins, measured, polled, number, polls, after_transfer, MayFollow}
+use Rattle.br_judge.specs.Good.{TX, RX, CS, EN, OUT, busy, chip_is_ready, words_for}
+use Rattle.br_judge.specs.Good.{frame_length, with_light, set_light, poll, Good, BeginsGood}
+use Rattle.br_judge.specs.Places.{Piece, joined, waiting, receiving, received, may_send, exchanging}
+use Rattle.br_judge.specs.Places.{after_byte, transferring, transfer, bytes_for, after, asking}
+use Rattle.br_judge.specs.Places.{asked, begun, reading, after_frame, after_word, with_word, begins}
+use Rattle.br_judge.specs.Places.{measured, polled, number, polls, after_transfer, MayFollow}
 use Rattle.br_judge.proofs.Sets.{times_zero-from, times_suc-from}
 use Rattle.br_judge.proofs.Turns.{asking_zero, asking_suc, reading_zero, reading_suc}
 
@@ -35,8 +41,10 @@ has_busy : (n port : ℕ) → HasList (times n (busy port))
 has_busy zero port = ([], times_zero-from (busy port))
 has_busy (suc n) port =
     let rest = has_busy n port in
-    let high : Event = Read port (2 ^ 31) in
-    (high ∷ rest.0, times_suc-from n (busy port) (high ∷ rest.0) (high ∷ [], rest.0, refl, (2 ^ 31, (lit≤ tt, refl)), rest.1))
+    let high : Event = Read port (2 ^ 31) in (
+      high ∷ rest.0,
+      times_suc-from n (busy port) (high ∷ rest.0) (high ∷ [], rest.0, refl, (2 ^ 31, (lit≤ tt, refl)), rest.1),
+    )
 
 has_polls : HasList polls
 has_polls = ([], (0, times_zero-from poll))
@@ -46,12 +54,15 @@ has_failed_get : (left : ℕ) → HasList (receiving left None)
 has_failed_get left = has_joined (waiting RX left) (received None) None (has_busy (suc left) RX) ([], (refl, refl))
 
 has_failed : (b : ℕ) (x : Exchange) → HasList (exchanging b x None)
-has_failed b (Put left) = has_joined (waiting TX left) (may_send b None) None (has_busy (suc left) TX) ([], (refl, refl))
+has_failed b (Put left) =
+    has_joined (waiting TX left) (may_send b None) None (has_busy (suc left) TX) ([], (refl, refl))
 has_failed b Send = has_event (Write TX b) (receiving 999 None) (has_failed_get 999)
 has_failed b (Get left) = has_failed_get left
 
-has_byte : (b : ℕ) (bs : List ℕ) (value : ℕ) (x : Exchange) → HasList (joined (exchanging b x) (after_byte (transferring bs) value None))
-has_byte b bs value x = has_joined (exchanging b x) (after_byte (transferring bs) value None) None (has_failed b x) (Write CS 0 ∷ [], (refl, refl))
+has_byte : (b : ℕ) (bs : List ℕ) (value : ℕ) (x : Exchange)
+    → HasList (joined (exchanging b x) (after_byte (transferring bs) value None))
+has_byte b bs value x = has_joined (exchanging b x) (after_byte (transferring bs) value None) None (has_failed b x)
+    (Write CS 0 ∷ [], (refl, refl))
 
 -- so a transfer may fail
 has_selected : (b : ℕ) (bs : List ℕ) → HasList (transfer (b ∷ bs) Select None)
@@ -66,8 +77,11 @@ has_select (Word left f) = has_selected 3 (0 ∷ 0 ∷ 0 ∷ 0 ∷ 0 ∷ 0 ∷ [
 
 has_transfer : (purpose : Purpose) (at : Transfer) → (o : Option ℕ) × HasList (transfer (bytes_for purpose) at o)
 has_transfer purpose Select = (None, has_select purpose)
-has_transfer purpose (Byte sent value x) =
-    (None, has_byte (Rattle.std.proofs.Common.get_or (bytes_for purpose) sent 0) (Rattle.std.proofs.Common.drop (suc sent) (bytes_for purpose)) value x)
+has_transfer purpose (Byte sent value x) = (
+  None,
+  has_byte (Rattle.std.proofs.Common.get_or (bytes_for purpose) sent 0) (Rattle.std.proofs.Common.drop
+      (suc sent) (bytes_for purpose)) value x,
+)
 has_transfer purpose (Release outcome) = (outcome, (Write CS 0 ∷ [], (refl, refl)))
 
 has_after_transfer : (purpose : Purpose) (K : Piece) → HasList (K None) → HasList (after_transfer purpose K)
@@ -81,8 +95,16 @@ has_asking (suc n) =
 
 has_set : (on : Bool) → HasList (set_light (number on) ▸ polls)
 has_set on =
-    let write : Event = Write OUT (with_light (number on) 0) in
-    (Read OUT 0 ∷ write ∷ [], (Read OUT 0 ∷ write ∷ [], [], refl, (0, (Read OUT 0 ∷ [], write ∷ [], refl, refl, refl)), (0, times_zero-from poll)))
+    let write : Event = Write OUT (with_light (number on) 0) in (
+      Read OUT 0 ∷ write ∷ [],
+      (
+        Read OUT 0 ∷ write ∷ [],
+        [],
+        refl,
+        (0, (Read OUT 0 ∷ [], write ∷ [], refl, refl, refl)),
+        (0, times_zero-from poll),
+      ),
+    )
 
 has_ended : (fits light : Bool) → HasList (after_frame fits light)
 has_ended true light = has_set light
@@ -99,7 +121,8 @@ has_reading (suc n) f =
 has_after : (purpose : Purpose) (o : Option ℕ) → HasList (after purpose o)
 has_after (Ask left) (Some v) = by (eqb_tells v chip_is_ready)
   where
-    by : (((v == chip_is_ready) ≡ true) × (v ≡ chip_is_ready)) ⊎ (((v == chip_is_ready) ≡ false) × (v ≢ chip_is_ready)) → HasList (asked (asking left) (Some v))
+    by : (((v == chip_is_ready) ≡ true) × (v ≡ chip_is_ready)) ⊎ (((v == chip_is_ready) ≡ false) × (v ≢ chip_is_ready))
+        → HasList (asked (asking left) (Some v))
     by (inl (t, is)) = let s = has_after_transfer Begin begun has_nothing in (s.0, inl (is, s.1))
     by (inr (t, ne)) = let s = has_asking left in (s.0, inr (ne, s.1))
 has_after (Ask left) None = has_nothing
@@ -135,11 +158,14 @@ ahead place.Outside = inl refl
 abbrev pub StandsAt : Place → List Event → Type 0
 StandsAt p events = (rest : List Event) → Good (events ++ rest) ↔ MayFollow p rest
 
-pub stands_after : (old new : Place) (e : Event) (events : List Event) → ((rest : List Event) → MayFollow old (e ∷ rest) ↔ MayFollow new rest) →
+pub stands_after : (old new : Place) (e : Event) (events : List Event)
+    → ((rest : List Event) → MayFollow old (e ∷ rest) ↔ MayFollow new rest) →
     StandsAt old events → StandsAt new (events ++ e ∷ [])
 stands_after old new e events step stands rest =
-    let is : (events ++ e ∷ []) ++ rest ≡ events ++ e ∷ rest = append_assoc events (e ∷ []) rest in
-    (λ g. (step rest).0 ((stands (e ∷ rest)).0 (subst Good is g)), λ m. subst Good (sym is) ((stands (e ∷ rest)).1 ((step rest).1 m)))
+    let is : (events ++ e ∷ []) ++ rest ≡ events ++ e ∷ rest = append_assoc events (e ∷ []) rest in (
+      λ g. (step rest).0 ((stands (e ∷ rest)).0 (subst Good is g)),
+      λ m. subst Good (sym is) ((stands (e ∷ rest)).1 ((step rest).1 m)),
+    )
 
 not_true : (b : Bool) → (b ≡ true → ⊥) → IsTrue (not b)
 not_true true h = absurd (h refl)
@@ -150,7 +176,8 @@ true_not true h n = cc
 true_not false h n = cc
 
 -- a place is outside exactly where no member of Good begins with the list
-pub begins_exactly : (p : Place) (events : List Event) (b : Bool) → IsTrue b ↔ (p ≡ place.Outside) → StandsAt p events → IsTrue (not b) ↔ BeginsGood events
+pub begins_exactly : (p : Place) (events : List Event) (b : Bool) → IsTrue b ↔ (p ≡ place.Outside) → StandsAt p events
+    → IsTrue (not b) ↔ BeginsGood events
 begins_exactly p events b outside stands = (to (ahead p), from)
   where
     to : (p ≡ place.Outside) ⊎ HasList (MayFollow p) → IsTrue (not b) → BeginsGood events

@@ -1,5 +1,6 @@
 -- Laws of sets of lists of events.
-use Rattle.std.proofs.Common.{◌≡◌, ◌⊎◌, inl, inr, ◌↔◌, ℕ, zero, suc, ◌≤◌, List, [], ◌∷◌, ◌++◌, Option, refl, sym, ap, subst, ◌∙◌, append_assoc, arith}
+use Rattle.std.proofs.Common.{◌≡◌, ◌⊎◌, inl, inr, ◌↔◌, ℕ, zero, suc, ◌≤◌, List, [], ◌∷◌}
+use Rattle.std.proofs.Common.{◌++◌, Option, refl, sym, ap, subst, ◌∙◌, append_assoc, arith}
 use Rattle.br_bytes.specs.declared.run.Event.{Event}
 use Rattle.br_judge.specs.declared.place.Moved.{Moved}
 use Rattle.br_judge.specs.declared.place.Moved.TheVariants.{On, Over, Departs}
@@ -90,8 +91,13 @@ pub up_to_none : (n : ℕ) (L K : Language) (es : List Event) → K es → (up_t
 up_to_none n L K es k = ([], es, refl, (0, (omega arith, times_zero-from L)), k)
 
 pub up_to_more : (n : ℕ) (L K : Language) (es : List Event) → (L ▸ up_to n L ▸ K) es → (up_to (suc n) L ▸ K) es
-up_to_more n L K es (f, b, h, l, (g, c, h', (k, (le, t)), x)) =
-    (f ++ g, c, h ∙ ap (λ q. f ++ q) h' ∙ sym (append_assoc f g c), (suc k, (omega arith, times_suc-from k L (f ++ g) (f, g, refl, l, t))), x)
+up_to_more n L K es (f, b, h, l, (g, c, h', (k, (le, t)), x)) = (
+  f ++ g,
+  c,
+  h ∙ ap (λ q. f ++ q) h' ∙ sym (append_assoc f g c),
+  (suc k, (omega arith, times_suc-from k L (f ++ g) (f, g, refl, l, t))),
+  x,
+)
 
 pub up_to_zero-to : (L K : Language) (es : List Event) → (up_to 0 L ▸ K) es → K es
 up_to_zero-to L K es (f, b, h, (zero, (le, t)), k) = nothing-to K es f b h (times_zero-to L f t) k
@@ -135,7 +141,8 @@ pub steps_joined : {P : Type 0} (within : P → Piece) (m : Moved P) (A K : Piec
     Steps (joined A K) e (joined_rest within m K)
 steps_joined within m A K e none steps rest = (to, steps-from within m A K e steps rest)
   where
-    by : (o : Option ℕ) → (A o [] × K o (e ∷ rest)) ⊎ ((f b : List Event) × (rest ≡ f ++ b) × A o (e ∷ f) × K o b) → joined_rest within m K rest
+    by : (o : Option ℕ) → (A o [] × K o (e ∷ rest)) ⊎ ((f b : List Event) × (rest ≡ f ++ b) × A o (e ∷ f) × K o b)
+        → joined_rest within m K rest
     by o (inl (a, k)) = absurd (none o a)
     by o (inr (f, b, h, a, k)) = steps-to within m K o rest f b h ((steps o f).0 a) k
 
@@ -143,5 +150,7 @@ steps_joined within m A K e none steps rest = (to, steps-from within m A K e ste
     to (o, (f, b, h, a, k)) = by o (seq-to (A o) (K o) e rest f b h a k)
 
 pub joined_same : (A B K : Piece) → ((o : Option ℕ) → Same (A o) (B o)) → Same (joined A K) (joined B K)
-joined_same A B K same es =
-    (λ (o, (f, b, h, a, k)). (o, (f, b, h, (same o f).0 a, k)), λ (o, (f, b, h, a, k)). (o, (f, b, h, (same o f).1 a, k)))
+joined_same A B K same es = (
+  λ (o, (f, b, h, a, k)). (o, (f, b, h, (same o f).0 a, k)),
+  λ (o, (f, b, h, a, k)). (o, (f, b, h, (same o f).1 a, k)),
+)

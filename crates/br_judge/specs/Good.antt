@@ -1,11 +1,13 @@
--- The trace language of the firmware: what it may do with its devices, whatever they answer. GPIO and
--- SPI1 are blocks of the FE310, and a LAN9250 is reached through SPI1.
-use Rattle.std.specs.Prelude.{◌≡◌, ◌≢◌, ℕ, ◌+◌, ◌*◌, ◌/◌, ◌%◌, ◌^◌, ◌<◌, ◌≤◌, Bool, true, false, List, [], ◌∷◌, ◌++◌, length, take, drop, slice_index, ◌==◌, ◌&&◌, nat_le, bit_and, bit_or}
-use Rattle.std.specs.List.{flat_map}
+-- The trace language of the firmware: what it may do with its devices, whatever they answer. GPIO
+-- and SPI1 are blocks of the FE310, and a LAN9250 is reached through SPI1.
+use Rattle.std.specs.Prelude.{◌≡◌, ◌≢◌, ℕ, ◌+◌, ◌*◌, ◌/◌, ◌%◌, ◌^◌, ◌<◌, ◌≤◌, Bool}
+use Rattle.std.specs.Prelude.{true, false, List, [], ◌∷◌, ◌++◌, length, take, drop}
+use Rattle.std.specs.Prelude.{slice_index, ◌==◌, ◌&&◌, nat_le, bit_and, bit_or}
 use Rattle.br_bytes.specs.declared.run.Event.{Event}
 use Rattle.br_bytes.specs.declared.run.Event.TheVariants.{Read, Write}
-use Rattle.br_bytes.specs.Number.{number_of, low_bytes}
-use Rattle.br_judge.specs.Languages.{Language, ◌▸◌, nothing, event, either, some, given, times, up_to, any_number}
+use Rattle.br_bytes.specs.Number.{number_of, low_bytes, word_bytes}
+use Rattle.br_judge.specs.Languages.{Language, ◌▸◌, nothing, event, either}
+use Rattle.br_judge.specs.Languages.{some, given, times, up_to, any_number}
 
 -- ---- registers
 
@@ -75,7 +77,8 @@ exchanges (b ∷ bs) [] es = ⊥
 -- some of the bytes are sent in turn, and the next one fails
 abbrev pub failed_exchanges : List ℕ → Language
 failed_exchanges [] es = ⊥
-failed_exchanges (b ∷ bs) es = either (failed_exchange b) (some λ (r : ℕ). exchange b r ▸ failed_exchanges bs) es
+failed_exchanges (b ∷ bs) es =
+    either (failed_exchange b) (some λ (r : ℕ). exchange b r ▸ failed_exchanges bs) es
 
 abbrev pub select : Language
 select = event (Write CS 2)
@@ -83,14 +86,15 @@ select = event (Write CS 2)
 abbrev pub release : Language
 release = event (Write CS 0)
 
--- what is sent to read the register at `a`: the command, the address, and four bytes in exchange for
--- those of the word
+-- what is sent to read the register at `a`: the command, the address, and four
+-- bytes in exchange for those of the word
 abbrev pub read_bytes : ℕ → List ℕ
 read_bytes a = 3 ∷ a / 256 ∷ a % 256 ∷ 0 ∷ 0 ∷ 0 ∷ 0 ∷ []
 
 -- the word is that of the last four bytes received, the lowest first
 abbrev pub read_word : ℕ → ℕ → Language
-read_word a v = select ▸ (some λ (rs : List ℕ). given (v ≡ number_of (drop 3 rs)) (exchanges (read_bytes a) rs)) ▸ release
+read_word a v = select ▸ (some
+    λ (rs : List ℕ). given (v ≡ number_of (drop 3 rs)) (exchanges (read_bytes a) rs)) ▸ release
 
 abbrev pub failed_read : ℕ → Language
 failed_read a = select ▸ failed_exchanges (read_bytes a) ▸ release
@@ -152,12 +156,13 @@ words_for n = (n + 3) / 4
 
 -- the first n bytes of words, the lowest of each first
 abbrev pub first_bytes : ℕ → List ℕ → List ℕ
-first_bytes n ws = take n (flat_map (low_bytes 4) ws)
+first_bytes n ws = take n (word_bytes ws)
 
 abbrev pub frame : List ℕ → Language
 frame bytes =
     waits ▸ some λ (l : ℕ). read_word 0x40 l ▸ some λ (ws : List ℕ).
-    given ((length ws ≡ words_for (frame_length l)) × (bytes ≡ first_bytes (frame_length l) ws)) (frame_words ws)
+    given ((length ws ≡ words_for (frame_length l)) × (bytes ≡ first_bytes (frame_length l) ws))
+    (frame_words ws)
 
 -- a poll fails at the first read, at the length, or at one of the words of a frame
 abbrev pub failed_poll : Language

@@ -1,5 +1,7 @@
 -- What may follow at each place of the judge, so that a list of events is in the language.
-use Rattle.std.specs.Prelude.{◌≡◌, ◌≢◌, ℕ, zero, suc, ◌+◌, ◌*◌, ◌/◌, ◌%◌, ◌^◌, Bool, true, false, List, [], ◌∷◌, ◌++◌, drop, slice_index, nat_lt, nat_le, ◌==◌, ◌&&◌, if◌then◌else◌, bit_or, Option, Some, None, ◌↔◌}
+use Rattle.std.specs.Prelude.{◌≡◌, ◌≢◌, ℕ, zero, suc, ◌+◌, ◌*◌, ◌/◌, ◌%◌, ◌^◌, Bool, true}
+use Rattle.std.specs.Prelude.{false, List, [], ◌∷◌, ◌++◌, drop, slice_index, nat_lt, nat_le}
+use Rattle.std.specs.Prelude.{◌==◌, ◌&&◌, if◌then◌else◌, bit_or, Option, Some, None, ◌↔◌}
 use Rattle.br_bytes.specs.declared.run.Event.{Event}
 use Rattle.br_bytes.specs.declared.run.Event.TheVariants.{Read, Write}
 use Rattle.br_judge.specs.declared.place.Moved.{Moved}
@@ -14,8 +16,11 @@ use Rattle.br_judge.specs.declared.place.Frame.{Frame}
 use Rattle.br_judge.specs.declared.place.Place.{Place}
 use Rattle.br_judge.specs.declared.place.Place.TheVariants as place
 use Rattle.br_judge.specs.declared.judge.Judge.{Judge}
-use Rattle.br_judge.specs.Languages.{Language, ◌▸◌, nothing, event, either, some, given, times, up_to, any_number}
-use Rattle.br_judge.specs.Good.{TX, RX, EN, OUT, busy, ready, select, release, read_bytes, write_bytes, chip_is_ready, words_for, frame_length, set_light, poll, Good}
+use Rattle.br_judge.specs.Languages.{Language, ◌▸◌, nothing, event, either}
+use Rattle.br_judge.specs.Languages.{some, given, times, up_to, any_number}
+use Rattle.br_judge.specs.Good.{TX, RX, EN, OUT, busy, ready, select, release}
+use Rattle.br_judge.specs.Good.{read_bytes, write_bytes, chip_is_ready}
+use Rattle.br_judge.specs.Good.{words_for, frame_length, set_light, poll, Good}
 
 -- ---- pieces with an outcome: a word that the piece gives, or None where it failed
 
@@ -75,12 +80,14 @@ after_byte more value o None = given (o ≡ None) release
 -- bytes are sent in turn
 abbrev pub transferring : List ℕ → ℕ → Piece
 transferring [] value o = given (o ≡ Some value) release
-transferring (b ∷ bs) value o = joined (exchanging b (Put 999)) (after_byte (transferring bs) value o)
+transferring (b ∷ bs) value o =
+    joined (exchanging b (Put 999)) (after_byte (transferring bs) value o)
 
 abbrev pub transfer : List ℕ → Transfer → Piece
 transfer bytes Select o = select ▸ transferring bytes 0 o
 transfer bytes (Byte sent value x) o =
-    joined (exchanging (slice_index bytes sent) x) (after_byte (transferring (drop (suc sent) bytes)) value o)
+    joined (exchanging (slice_index bytes sent) x)
+    (after_byte (transferring (drop (suc sent) bytes)) value o)
 transfer bytes (Release outcome) o = given (o ≡ outcome) release
 
 -- ---- what transfers are for
@@ -106,7 +113,8 @@ begun None = nothing
 
 -- after the chip was asked, where `again` is to ask again
 abbrev pub asked : Language → Piece
-asked again (Some v) = either (given (v ≡ chip_is_ready) (after_transfer Begin begun)) (given (v ≢ chip_is_ready) again)
+asked again (Some v) = either (given (v ≡ chip_is_ready) (after_transfer Begin begun))
+    (given (v ≢ chip_is_ready) again)
 asked again None = nothing
 
 -- the chip may be asked `left` times
@@ -178,7 +186,8 @@ after (Word left f) = after_word (reading left) f
 
 -- what may follow at a place
 abbrev pub MayFollow : Place → Language
-MayFollow place.Start es = (some λ (v : ℕ). event (Read EN v) ▸ event (Write EN (bit_or v (2 ^ 23))) ▸ asking 200) es
+MayFollow place.Start es =
+    (some λ (v : ℕ). event (Read EN v) ▸ event (Write EN (bit_or v (2 ^ 23))) ▸ asking 200) es
 MayFollow (place.Pin v) es = (event (Write EN v) ▸ asking 200) es
 MayFollow (place.In purpose at) es = joined (transfer (bytes_for purpose) at) (after purpose) es
 MayFollow place.Between es = polls es

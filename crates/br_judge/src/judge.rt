@@ -3,7 +3,8 @@
 ghost use Rattle.std.specs.Prelude.{◌≡◌, ◌↔◌, ℕ, List, [], ◌∷◌, ◌++◌, Option, IsTrue};
 ghost use Rattle.br_bytes.specs.declared.run.Event.{Event};
 ghost use Rattle.br_judge.specs.Good.{BeginsGood, with_light};
-ghost use Rattle.br_judge.specs.Places.{Stands, MayFollow, bytes_for, after, reading, with_word, begins, still_fits, light_after, number};
+ghost use Rattle.br_judge.specs.Places.{Stands, MayFollow, bytes_for, after, reading};
+ghost use Rattle.br_judge.specs.Places.{with_word, begins, still_fits, light_after, number};
 
 use crate::exchange::is_write;
 use crate::place::{Frame, Moved, Place, Purpose, Transfer};
@@ -129,7 +130,8 @@ fn after_event(purpose: Purpose, at: Transfer, e: Event) -> Place
     }
 }
 
-// What a transfer sends: the command, the address, and the word's bytes or four in exchange for them.
+// What a transfer sends: the command, the address, and the
+// word's bytes or four in exchange for them.
 fn bytes_for(purpose: Purpose) -> [u8; 7]
     ensures { result ≡ bytes_for purpose }
 {

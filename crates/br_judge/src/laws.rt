@@ -3,8 +3,8 @@
 
 ghost use Rattle.br_judge.specs.Steps.{TransfersLead, OutcomesLead, OthersLead, PlacesStand};
 
-/// The places of the judge, event by event: a transfer from its select to its release, what its outcome
-/// calls for, and the pins.
+/// The places of the judge, event by event: a transfer from its select to its release, what
+/// its outcome calls for, and the pins.
 pub fn events_lead_on()
     ensures transfers { TransfersLead }
     ensures outcomes { OutcomesLead }

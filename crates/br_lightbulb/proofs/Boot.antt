@@ -1,5 +1,6 @@
 -- The start: the light's pin becomes an output, and the chip is asked until it is ready.
-use Rattle.std.proofs.Common.{◌≡◌, ◌≢◌, ◌⊎◌, inl, inr, ℕ, zero, suc, ◌+◌, ◌≤◌, Bool, true, false, List, [], ◌∷◌, ◌++◌, Some, ◌==◌, bit_or, refl, sym, ap, subst, ◌∙◌, arith, append_assoc, append-nil}
+use Rattle.std.proofs.Common.{◌≡◌, ◌≢◌, ◌⊎◌, inl, inr, ℕ, zero, suc, ◌+◌, ◌≤◌, Bool, true, false, List, [], ◌∷◌}
+use Rattle.std.proofs.Common.{◌++◌, Some, ◌==◌, bit_or, refl, sym, ap, subst, ◌∙◌, arith, append_assoc, append-nil}
 use Rattle.std.proofs.lemmas.Bool.{eqb-true}
 use Rattle.std.proofs.lemmas.Bool.Decides.{nat_tests}
 use Rattle.br_words.specs.declared.operation.BinOp.TheVariants.{Sub, Or, Eq}
@@ -12,12 +13,14 @@ use Rattle.br_source_meaning.specs.Runs.{State, Callee, with_locals, run_all}
 use Rattle.br_source_meaning.specs.Calls.{run_function}
 use Rattle.br_judge.specs.Languages.{◌▸◌, times, up_to}
 use Rattle.br_judge.specs.Good as good
-use Rattle.br_judge.specs.Good.{EN, chip_is_ready, missed, read_word, failed_read, write_word, failed_write, failed_boot}
+use Rattle.br_judge.specs.Good.{EN, chip_is_ready, missed, read_word, failed_read}
+use Rattle.br_judge.specs.Good.{write_word, failed_write, failed_boot}
 use Rattle.br_lightbulb.specs.Names as name
 use Rattle.br_lightbulb.specs.Polls.{boot}
 use Rattle.br_lightbulb.specs.Shows.{Begins, ShowsPiece, read_piece, write_piece, boot_piece}
 use Rattle.br_lightbulb.proofs.Commands.{lit, var, op, Commands, done, set, cond, repeat, call, read, write}
-use Rattle.br_lightbulb.proofs.Leads.{Leads, Stopping, upon, at_state, ends, sets, first_of_two, second_of_two, reads, writes, shown, Turns, repeats}
+use Rattle.br_lightbulb.proofs.Leads.{Leads, Stopping, upon, at_state, ends, sets, first_of_two}
+use Rattle.br_lightbulb.proofs.Leads.{second_of_two, reads, writes, shown, Turns, repeats}
 use Rattle.br_lightbulb.proofs.LanWrite.{writes_start}
 use Rattle.br_lightbulb.proofs.Spi.{Ended, shows-body, word_of}
 use Rattle.br_lightbulb.proofs.Waiting.{times_zero, times_more}

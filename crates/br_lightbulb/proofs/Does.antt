@@ -1,11 +1,13 @@
 -- What holds after a run, command by command.
-use Rattle.std.proofs.Common.{◌≡◌, ℕ, zero, suc, Bool, true, false, List, [], ◌∷◌, Option, Some, codes, ◌==◌, refl, sym, ap, subst, ◌∙◌}
+use Rattle.std.proofs.Common.{◌≡◌, ℕ, zero, suc, Bool, true, false, List, [], ◌∷◌}
+use Rattle.std.proofs.Common.{Option, Some, codes, ◌==◌, refl, sym, ap, subst, ◌∙◌}
 use Rattle.br_words.specs.Device.{is_device_word}
 use Rattle.br_words.specs.declared.operation.BinOp.{BinOp}
 use Rattle.br_words.specs.Words.{value_of_op}
 use Rattle.br_bytes.specs.declared.run.Event.TheVariants.{Read, Write}
 use Rattle.br_bytes.specs.Memory.{Memory}
-use Rattle.br_bytes.specs.Runs.{OutOfFuel, Goes, Ends, Returns, Stops, then_do, choose, with_fuel, happens, loop, read_device, back_in}
+use Rattle.br_bytes.specs.Runs.{OutOfFuel, Goes, Ends, Returns, Stops, then_do, choose}
+use Rattle.br_bytes.specs.Runs.{with_fuel, happens, loop, read_device, back_in}
 use Rattle.br_syntax.specs.declared.program.Expr.{Expr}
 use Rattle.br_syntax.specs.declared.program.Expr.TheVariants as expr
 use Rattle.br_syntax.specs.declared.program.Expr.TheOpen.{Expr-F}

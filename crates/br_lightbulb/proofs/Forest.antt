@@ -4,7 +4,8 @@ use Rattle.br_sexpr.specs.declared.tree.Tree.{Tree}
 use Rattle.br_sexpr.specs.declared.tree.Tree.TheVariants as tree
 use Rattle.br_sexpr.specs.Token.{Token, opens, closes, names, numbers}
 use Rattle.br_sexpr.specs.Forest.{forest_tokens, forest_height}
-use Rattle.br_sexpr.proofs.ForestLemmas.{tokens-name, tokens-number, tokens-list, height-name, height-number, height-list}
+use Rattle.br_sexpr.proofs.ForestLemmas.{tokens-name, tokens-number, tokens-list}
+use Rattle.br_sexpr.proofs.ForestLemmas.{height-name, height-number, height-list}
 
 -- trees, each with those after it
 pub data Forest : Type 0 where

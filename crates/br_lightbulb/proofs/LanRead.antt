@@ -1,5 +1,6 @@
 -- A word of the chip is read.
-use Rattle.std.proofs.Common.{◌≡◌, ◌⊎◌, inl, inr, ℕ, suc, ◌+◌, ◌*◌, ◌^◌, ◌<◌, ◌≤◌, true, false, List, [], ◌∷◌, ◌++◌, length, drop, Some, ◌==◌, refl, sym, ap, subst, ◌∙◌, arith, append_assoc, append-nil}
+use Rattle.std.proofs.Common.{◌≡◌, ◌⊎◌, inl, inr, ℕ, suc, ◌+◌, ◌*◌, ◌^◌, ◌<◌, ◌≤◌, true, false, List, [], ◌∷◌, ◌++◌}
+use Rattle.std.proofs.Common.{length, drop, Some, ◌==◌, refl, sym, ap, subst, ◌∙◌, arith, append_assoc, append-nil}
 use Rattle.std.proofs.lemmas.Grind.{or_before_shift}
 use Rattle.std.proofs.lemmas.Bool.Decides.{nat_tests}
 use Rattle.br_words.specs.declared.operation.BinOp.TheVariants.{Add, Or, Slu, Ltu}
@@ -16,7 +17,8 @@ use Rattle.br_lightbulb.specs.Names as name
 use Rattle.br_lightbulb.specs.Lan.{lan_read}
 use Rattle.br_lightbulb.specs.Shows.{Begins, ShowsPiece, read_piece}
 use Rattle.br_lightbulb.proofs.Commands.{lit, var, op, Commands, done, set, repeat, write}
-use Rattle.br_lightbulb.proofs.Leads.{Leads, Stopping, upon, at_state, ends, sets, first_of_two, second_of_two, writes, Turns, repeats}
+use Rattle.br_lightbulb.proofs.Leads.{Leads, Stopping, upon, at_state, ends, sets}
+use Rattle.br_lightbulb.proofs.Leads.{first_of_two, second_of_two, writes, Turns, repeats}
 use Rattle.br_lightbulb.proofs.Transfers.{Sent, all_sent, some_exchanges, MayStop, Exchanges, exchanges_byte}
 use Rattle.br_lightbulb.proofs.Opening.{exchange, unless_bad, opening, opens}
 use Rattle.br_lightbulb.proofs.Spi.{Ended, shows-body, words_of_two}

@@ -1,5 +1,6 @@
 -- A word of the chip is written.
-use Rattle.std.proofs.Common.{◌≡◌, ◌⊎◌, inl, inr, ℕ, zero, suc, ◌/◌, ◌<◌, ◌≤◌, List, [], ◌∷◌, ◌++◌, drop, Some, refl, sym, ap, subst, ◌∙◌, arith, append_assoc, append-nil}
+use Rattle.std.proofs.Common.{◌≡◌, ◌⊎◌, inl, inr, ℕ, zero, suc, ◌/◌, ◌<◌, ◌≤◌, List, [], ◌∷◌, ◌++◌}
+use Rattle.std.proofs.Common.{drop, Some, refl, sym, ap, subst, ◌∙◌, arith, append_assoc, append-nil}
 use Rattle.std.proofs.lemmas.Nat.{and_mask}
 use Rattle.br_words.specs.declared.operation.BinOp.TheVariants.{And, Sru, Slu, Ltu}
 use Rattle.br_words.specs.Words.{value_of_op}
@@ -15,7 +16,8 @@ use Rattle.br_lightbulb.specs.Names as name
 use Rattle.br_lightbulb.specs.Lan.{lan_write}
 use Rattle.br_lightbulb.specs.Shows.{Begins, ShowsPiece, write_piece}
 use Rattle.br_lightbulb.proofs.Commands.{lit, var, op, Commands, done, repeat, write}
-use Rattle.br_lightbulb.proofs.Leads.{Leads, Stopping, upon, at_state, ends, sets, first_of_two, second_of_two, writes, Turns, repeats}
+use Rattle.br_lightbulb.proofs.Leads.{Leads, Stopping, upon, at_state, ends, sets}
+use Rattle.br_lightbulb.proofs.Leads.{first_of_two, second_of_two, writes, Turns, repeats}
 use Rattle.br_lightbulb.proofs.Transfers.{Sent, all_sent, some_exchanges, MayStop, Exchanges, exchanges_byte}
 use Rattle.br_lightbulb.proofs.Opening.{exchange, unless_bad, opening, opens}
 use Rattle.br_lightbulb.proofs.LanRead.{one_more, less, not_less, framed, next_index, closing}

@@ -1,5 +1,6 @@
 -- Where commands lead, one command at a time. Of a state in which a run stops only its trace is asked.
-use Rattle.std.proofs.Common.{◌≡◌, ℕ, Bool, true, false, List, [], ◌∷◌, ◌++◌, Some, map, ◌==◌, refl, sym, subst, ◌∙◌, append-nil}
+use Rattle.std.proofs.Common.{◌≡◌, ℕ, Bool, true, false, List, [], ◌∷◌, ◌++◌}
+use Rattle.std.proofs.Common.{Some, map, ◌==◌, refl, sym, subst, ◌∙◌, append-nil}
 use Rattle.br_words.specs.Device.{is_device_word}
 use Rattle.br_words.specs.Words.{flag}
 use Rattle.br_bytes.specs.declared.run.Choice.{Choice}
@@ -14,8 +15,10 @@ use Rattle.br_syntax.specs.declared.program.Cmd.TheOpen.{Cmd-F}
 use Rattle.br_source_meaning.specs.Values.{Name, Locals, with_local}
 use Rattle.br_source_meaning.specs.Runs.{State, Run, Returned, Callee, set_to, with_locals, run_all}
 use Rattle.br_lightbulb.specs.Shows.{Piece, Begins, ShowsPiece, ShowsEvents}
-use Rattle.br_lightbulb.proofs.Does.{Does, DoesCall, by_command, run-layer, does-set, does-first, does-second, does-read, does-write, does-call, does-while}
-use Rattle.br_lightbulb.proofs.Commands.{Exp, Commands, done, set, cond, repeat, call, read, write, store, buffer, tree, trees, val, vals, value_is, values_are}
+use Rattle.br_lightbulb.proofs.Does.{Does, DoesCall, by_command, run-layer, does-set, does-first}
+use Rattle.br_lightbulb.proofs.Does.{does-second, does-read, does-write, does-call, does-while}
+use Rattle.br_lightbulb.proofs.Commands.{Exp, Commands, done, set, cond, repeat, call, read, write}
+use Rattle.br_lightbulb.proofs.Commands.{store, buffer, tree, trees, val, vals, value_is, values_are}
 
 -- a trace in which a run may stop: after these events the first ones of the piece
 abbrev pub Stopping : List Event → Piece → List Event → Type 0

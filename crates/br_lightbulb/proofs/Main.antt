@@ -1,5 +1,6 @@
 -- The firmware from its start on.
-use Rattle.std.proofs.Common.{◌≡◌, ◌≢◌, ◌⊎◌, inl, inr, ℕ, suc, List, [], ◌∷◌, ◌++◌, Some, refl, sym, ap, subst, ◌∙◌, append_assoc, append-nil}
+use Rattle.std.proofs.Common.{◌≡◌, ◌≢◌, ◌⊎◌, inl, inr, ℕ, suc, List, [], ◌∷◌, ◌++◌}
+use Rattle.std.proofs.Common.{Some, refl, sym, ap, subst, ◌∙◌, append_assoc, append-nil}
 use Rattle.br_words.specs.declared.operation.BinOp.TheVariants.{Eq}
 use Rattle.br_bytes.specs.declared.run.Choice.{Choice}
 use Rattle.br_bytes.specs.declared.run.Event.{Event}
@@ -17,7 +18,8 @@ use Rattle.br_judge.specs.Good as good
 use Rattle.br_judge.specs.Good.{failed_boot, Good, BeginsGood}
 use Rattle.br_lightbulb.specs.Names as name
 use Rattle.br_lightbulb.specs.Polls.{main, firmware}
-use Rattle.br_lightbulb.specs.Shows.{IsDefined, Begins, ShowsPiece, ShowsEvents, boot_piece, poll_piece, HasFirmware, StaysGood}
+use Rattle.br_lightbulb.specs.Shows.{IsDefined, Begins, ShowsPiece, ShowsEvents}
+use Rattle.br_lightbulb.specs.Shows.{boot_piece, poll_piece, HasFirmware, StaysGood}
 use Rattle.br_lightbulb.proofs.Boot.{boots_start}
 use Rattle.br_lightbulb.proofs.Boots.{boot-pieces}
 use Rattle.br_lightbulb.proofs.Commands.{lit, var, op, Commands, done, repeat, call}

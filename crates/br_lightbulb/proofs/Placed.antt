@@ -20,11 +20,13 @@ use Rattle.br_syntax.specs.declared.program.Func.{Func}
 use Rattle.br_syntax.specs.declared.word.ExprWord.TheVariants as e
 use Rattle.br_syntax.specs.Shape.{is_buffer_size}
 use Rattle.br_syntax.specs.Word.{expr_word}
-use Rattle.br_syntax.specs.Denotes.{Places, places, with_places, command, command_of, commands, names, name_among, word_of, arguments_from, expression, function, functions}
+use Rattle.br_syntax.specs.Denotes.{Places, places, with_places, command, command_of, commands, names}
+use Rattle.br_syntax.specs.Denotes.{name_among, word_of, arguments_from, expression, function, functions}
 use Rattle.br_syntax.specs.Offsets.{unplaced, unplaced_step, without_offsets}
 use Rattle.br_lightbulb.proofs.Forest.{Forest}
 use Rattle.br_lightbulb.proofs.Forest as forest
-use Rattle.br_syntax.proofs.Equations.{expression-name, expression-number, expression-list, places-list, behind-list, trees_with_places}
+use Rattle.br_syntax.proofs.Equations.{expression-name, expression-number, expression-list}
+use Rattle.br_syntax.proofs.Equations.{places-list, behind-list, trees_with_places}
 
 abbrev pub Text : Type 0
 Text = List ℕ

@@ -1,5 +1,7 @@
 -- One look at the chip.
-use Rattle.std.proofs.Common.{◌≡◌, ◌≢◌, inl, inr, ℕ, zero, suc, ◌+◌, ◌%◌, ◌^◌, ◌≤◌, Bool, true, false, List, [], ◌∷◌, ◌++◌, length, Some, ◌==◌, ◌&&◌, refl, sym, ap, subst, ◌∙◌, arith, append_assoc, append-nil}
+use Rattle.std.proofs.Common.{◌≡◌, ◌≢◌, inl, inr, ℕ, zero, suc, ◌+◌, ◌%◌, ◌^◌, ◌≤◌, Bool}
+use Rattle.std.proofs.Common.{true, false, List, [], ◌∷◌, ◌++◌, length, Some, ◌==◌, ◌&&◌}
+use Rattle.std.proofs.Common.{refl, sym, ap, subst, ◌∙◌, arith, append_assoc, append-nil}
 use Rattle.std.specs.Prelude.{nat_le}
 use Rattle.std.proofs.lemmas.Bool.{eqb-true, leb-true}
 use Rattle.std.proofs.lemmas.Bool.Decides.{nat_tests}
@@ -17,14 +19,16 @@ use Rattle.br_judge.specs.Good as good
 use Rattle.br_judge.specs.Good.{OUT, waits, frame, failed_read, is_accepted, set_light, light_of, with_light, read_word}
 use Rattle.br_lightbulb.specs.Names as name
 use Rattle.br_lightbulb.specs.Polls.{poll}
-use Rattle.br_lightbulb.specs.Shows.{Begins, ShowsPiece, ShowsEvents, IsBuffer, Holds, received, failed_receive, BeginsFrame, Receives, handle_piece, poll_piece, read_piece, HasFirmware}
+use Rattle.br_lightbulb.specs.Shows.{Begins, ShowsPiece, ShowsEvents, IsBuffer, Holds, received, failed_receive}
+use Rattle.br_lightbulb.specs.Shows.{BeginsFrame, Receives, handle_piece, poll_piece, read_piece, HasFirmware}
 use Rattle.br_lightbulb.proofs.Boots.{words_at}
 use Rattle.br_lightbulb.proofs.Buffers.{new_buffer}
 use Rattle.br_lightbulb.proofs.Commands.{lit, var, Commands, done, cond, call, buffer}
 use Rattle.br_lightbulb.proofs.Does.{Does, DoesCall}
 use Rattle.br_lightbulb.proofs.Handle.{starts, handle-pieces}
 use Rattle.br_lightbulb.proofs.LanRead.{reads_start}
-use Rattle.br_lightbulb.proofs.Leads.{Leads, Stopping, upon, at_state, ends, first_of_two, second_of_two, calls, shown_here, buffers}
+use Rattle.br_lightbulb.proofs.Leads.{Leads, Stopping, upon, at_state, ends, first_of_two}
+use Rattle.br_lightbulb.proofs.Leads.{second_of_two, calls, shown_here, buffers}
 use Rattle.br_lightbulb.proofs.Receive.{receives_start, receive-pieces}
 use Rattle.br_lightbulb.proofs.Spi.{word_of}
 use Rattle.br_lightbulb.proofs.Words.{Words, fewer, reads_word}

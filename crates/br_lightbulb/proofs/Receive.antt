@@ -1,5 +1,7 @@
 -- A frame is read into a buffer.
-use Rattle.std.proofs.Common.{◌≡◌, ◌⊎◌, inl, inr, ℕ, zero, suc, ◌+◌, ◌*◌, ◌^◌, ◌<◌, ◌≤◌, Bool, true, false, List, [], ◌∷◌, ◌++◌, length, Some, ◌==◌, refl, sym, ap, subst, ◌∙◌, arith, append_assoc, append-nil, length-append, length-take-le}
+use Rattle.std.proofs.Common.{◌≡◌, ◌⊎◌, inl, inr, ℕ, zero, suc, ◌+◌, ◌*◌, ◌^◌, ◌<◌, ◌≤◌, Bool, true}
+use Rattle.std.proofs.Common.{false, List, [], ◌∷◌, ◌++◌, length, Some, ◌==◌, refl, sym, ap, subst}
+use Rattle.std.proofs.Common.{◌∙◌, arith, append_assoc, append-nil, length-append, length-take-le}
 use Rattle.std.specs.Prelude.{nat_lt, slice_index}
 use Rattle.std.specs.List.{flat_map}
 use Rattle.std.specs.FinMap as map
@@ -22,12 +24,14 @@ use Rattle.br_judge.specs.Languages.{Language, ◌▸◌, either, some}
 use Rattle.br_judge.specs.Good.{words_for, frame_length, first_bytes, frame_words, read_word, failed_read}
 use Rattle.br_lightbulb.specs.Names as name
 use Rattle.br_lightbulb.specs.Frames.{receive}
-use Rattle.br_lightbulb.specs.Shows.{Begins, IsBuffer, Holds, received, failed_receive, BeginsFrame, Receives, read_piece, HasFirmware}
+use Rattle.br_lightbulb.specs.Shows.{Begins, IsBuffer, Holds, received, failed_receive}
+use Rattle.br_lightbulb.specs.Shows.{BeginsFrame, Receives, read_piece, HasFirmware}
 use Rattle.br_lightbulb.proofs.Boots.{words_at}
 use Rattle.br_lightbulb.proofs.Buffers.{within, outside, sides, stored, still_buffer}
 use Rattle.br_lightbulb.proofs.Commands.{lit, var, op, Commands, done, set, cond, repeat, call, store}
 use Rattle.br_lightbulb.proofs.Does.{Does}
-use Rattle.br_lightbulb.proofs.Leads.{Leads, upon, at_state, ends, sets, first_of_two, second_of_two, tests, stores, Turns, repeats}
+use Rattle.br_lightbulb.proofs.Leads.{Leads, upon, at_state, ends, sets, first_of_two}
+use Rattle.br_lightbulb.proofs.Leads.{second_of_two, tests, stores, Turns, repeats}
 use Rattle.br_lightbulb.proofs.LanRead.{reads_start}
 use Rattle.br_lightbulb.proofs.Spi.{words_of_two}
 use Rattle.br_lightbulb.proofs.Words.{Words, unready_read, reads_word}

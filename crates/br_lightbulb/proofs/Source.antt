@@ -15,7 +15,9 @@ use Rattle.br_lightbulb.specs.Names as name
 use Rattle.br_lightbulb.specs.Polls.{firmware}
 use Rattle.br_lightbulb.specs.Text.{firmware_text}
 use Rattle.br_lightbulb.proofs.Forest as forest
-use Rattle.br_lightbulb.proofs.Placed.{number, var, op, load1, none, one, two, no_args, one_arg, two_args, done, set, store4, stackalloc, cond, loop, call, interact, Function, function_tree, placed, bare_function, functions_read, functions_bare, functions_forest}
+use Rattle.br_lightbulb.proofs.Placed.{number, var, op, load1, none, one, two, no_args, one_arg, two_args, done}
+use Rattle.br_lightbulb.proofs.Placed.{set, store4, stackalloc, cond, loop, call, interact, Function, function_tree}
+use Rattle.br_lightbulb.proofs.Placed.{placed, bare_function, functions_read, functions_bare, functions_forest}
 use Rattle.br_syntax.proofs.Meanings.{unplaced_again}
 
 abbrev spi_put : Function

@@ -1,5 +1,6 @@
 -- The functions for bytes over SPI.
-use Rattle.std.proofs.Common.{◌≡◌, ◌⊎◌, inl, inr, ℕ, zero, suc, ◌+◌, ◌%◌, List, [], ◌∷◌, ◌++◌, Option, Some, bit_and, refl, sym, ap, subst, ◌∙◌, arith, append_assoc, append-nil, lit<}
+use Rattle.std.proofs.Common.{◌≡◌, ◌⊎◌, inl, inr, ℕ, zero, suc, ◌+◌, ◌%◌, List, [], ◌∷◌, ◌++◌, Option, Some}
+use Rattle.std.proofs.Common.{bit_and, refl, sym, ap, subst, ◌∙◌, arith, append_assoc, append-nil, lit<}
 use Rattle.std.proofs.lemmas.Nat.{and_mask}
 use Rattle.br_words.specs.declared.operation.BinOp.TheVariants.{And}
 use Rattle.br_bytes.specs.declared.run.Event.{Event}
@@ -18,7 +19,8 @@ use Rattle.br_judge.specs.Good.{TX, RX, IsLow, busy, ready}
 use Rattle.br_lightbulb.specs.Names as name
 use Rattle.br_lightbulb.specs.Spi.{write, wait_loop, spi_put, spi_get, spi_xchg}
 use Rattle.br_lightbulb.specs.Shows.{Piece, Begins, ShowsPiece, put_piece, get_piece, exchange_piece, HasSpi}
-use Rattle.br_lightbulb.proofs.Does.{Does, DoesCall, value-lit, value-var, value-op, does-set, does-first, does-second, does-write, does-call}
+use Rattle.br_lightbulb.proofs.Does.{Does, DoesCall, value-lit, value-var, value-op, does-set}
+use Rattle.br_lightbulb.proofs.Does.{does-first, does-second, does-write, does-call}
 use Rattle.br_lightbulb.proofs.Waiting.{Loops, Finishes, times_zero, does-wait}
 
 -- ---- a function's body, and what the call shows

@@ -1,5 +1,6 @@
 -- The exchange of the bytes of a transfer, one after the other.
-use Rattle.std.proofs.Common.{◌≡◌, inl, inr, ℕ, ◌<◌, List, [], ◌∷◌, ◌++◌, Some, refl, sym, ap, subst, ◌∙◌, arith, append_assoc, append-nil, lit<}
+use Rattle.std.proofs.Common.{◌≡◌, inl, inr, ℕ, ◌<◌, List, [], ◌∷◌, ◌++◌, Some, refl}
+use Rattle.std.proofs.Common.{sym, ap, subst, ◌∙◌, arith, append_assoc, append-nil, lit<}
 use Rattle.br_bytes.specs.declared.run.Choice.{Choice}
 use Rattle.br_bytes.specs.declared.run.Event.{Event}
 use Rattle.br_bytes.specs.declared.run.Event.TheVariants.{Read, Write}

@@ -1,5 +1,6 @@
 -- The loop that waits for a port.
-use Rattle.std.proofs.Common.{◌≡◌, ◌⊎◌, inl, inr, ℕ, zero, suc, ◌+◌, ◌≤◌, true, false, List, [], ◌∷◌, ◌++◌, Some, ◌==◌, refl, sym, ap, subst, ◌∙◌, arith, append_assoc, append-nil}
+use Rattle.std.proofs.Common.{◌≡◌, ◌⊎◌, inl, inr, ℕ, zero, suc, ◌+◌, ◌≤◌, true, false, List, [], ◌∷◌, ◌++◌}
+use Rattle.std.proofs.Common.{Some, ◌==◌, refl, sym, ap, subst, ◌∙◌, arith, append_assoc, append-nil}
 use Rattle.std.proofs.lemmas.Bool.{eqb-true}
 use Rattle.std.proofs.lemmas.Bool.Decides.{nat_tests}
 use Rattle.br_words.specs.declared.operation.BinOp.TheVariants.{Sub, Lts}
@@ -18,7 +19,8 @@ use Rattle.br_judge.specs.Languages.{Language, ◌▸◌, times, up_to}
 use Rattle.br_judge.specs.Good.{IsHigh, IsLow, busy, ready}
 use Rattle.br_lightbulb.specs.Names as name
 use Rattle.br_lightbulb.specs.Spi.{read, wait_loop}
-use Rattle.br_lightbulb.proofs.Does.{Does, Turn, value-lit, value-var, value-op, does-set, does-first, does-second, does-read, does-while}
+use Rattle.br_lightbulb.proofs.Does.{Does, Turn, value-lit, value-var, value-op, does-set}
+use Rattle.br_lightbulb.proofs.Does.{does-first, does-second, does-read, does-while}
 
 -- ---- words
 

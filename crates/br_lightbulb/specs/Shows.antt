@@ -1,6 +1,7 @@
 -- What calls of the firmware's functions show: a piece of the trace language, or the first part of
 -- one.
-use Rattle.std.specs.Prelude.{◌≡◌, ◌≢◌, ◌⊎◌, ⊤, ℕ, ◌+◌, ◌^◌, ◌<◌, ◌≤◌, true, false, List, [], ◌∷◌, ◌++◌, length, slice_index, Some}
+use Rattle.std.specs.Prelude.{◌≡◌, ◌≢◌, ◌⊎◌, ⊤, ℕ, ◌+◌, ◌^◌, ◌<◌, ◌≤◌, true, false}
+use Rattle.std.specs.Prelude.{List, [], ◌∷◌, ◌++◌, length, slice_index, Some}
 use Rattle.std.specs.FinMap as map
 use Rattle.br_bytes.specs.declared.run.Event.{Event}
 use Rattle.br_bytes.specs.declared.run.Outcome.TheVariants as outcome
@@ -16,7 +17,10 @@ use Rattle.br_lightbulb.specs.Spi as spi
 use Rattle.br_lightbulb.specs.Lan as lan
 use Rattle.br_lightbulb.specs.Frames as frames
 use Rattle.br_lightbulb.specs.Polls as polls
-use Rattle.br_judge.specs.Good.{spi_put, failed_put, spi_get, failed_get, exchange, failed_exchange, read_word, failed_read, write_word, failed_write, boot, failed_boot, words_for, frame_length, first_bytes, frame_words, is_accepted, set_light, light_of, poll, BeginsGood}
+use Rattle.br_judge.specs.Good.{spi_put, failed_put, spi_get, failed_get, exchange}
+use Rattle.br_judge.specs.Good.{failed_exchange, read_word, failed_read, write_word, failed_write}
+use Rattle.br_judge.specs.Good.{boot, failed_boot, words_for, frame_length, first_bytes}
+use Rattle.br_judge.specs.Good.{frame_words, is_accepted, set_light, light_of, poll, BeginsGood}
 
 -- any end but that of an undefined run
 abbrev pub IsDefined : End → Type 0

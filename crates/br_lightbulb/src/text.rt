@@ -1,7 +1,7 @@
 // The text of the firmware.
 
-/// The text. `spi_put`, `spi_get` and `spi_xchg` move a byte over SPI1, `lan_read` and `lan_write` a
-/// word of the LAN9250, `boot` makes the light's pin an output and waits for the chip, `receive`
+/// The text. `spi_put`, `spi_get` and `spi_xchg` move a byte over SPI1, `lan_read` and `lan_write`
+/// a word of the LAN9250, `boot` makes the light's pin an output and waits for the chip, `receive`
 /// reads a frame, `handle` sets the light as the frame asks, `poll` looks once for a frame, and
 /// `main` starts and then polls for ever.
 pub const TEXT: &[u8] = b"\

@@ -1,5 +1,6 @@
 -- The functions of a program that is equal to the firmware up to offsets: each is the first of its name.
-use Rattle.std.proofs.Common.{◌≡◌, ℕ, zero, suc, Bool, true, false, not, ◌&&◌, ◌||◌, cond, List, [], ◌∷◌, map, Some, None, refl, sym, ap, ◌∙◌, slice_get}
+use Rattle.std.proofs.Common.{◌≡◌, ℕ, zero, suc, Bool, true, false, not, ◌&&◌, ◌||◌, cond}
+use Rattle.std.proofs.Common.{List, [], ◌∷◌, map, Some, None, refl, sym, ap, ◌∙◌, slice_get}
 use Rattle.std.specs.List.{list_any}
 use Rattle.std.specs.Option.{option_map}
 use Rattle.std.specs.Str.{bytes_eq}
@@ -30,7 +31,8 @@ other_name x (g ∷ gs) none n f at = by (bytes_eq x g.name) refl none n at (oth
   where
     by : (b : Bool) → bytes_eq x g.name ≡ b → (b || list_any (λ y. bytes_eq x y) (map name_of gs)) ≡ false
         → (n : ℕ) → slice_get (g ∷ gs) n ≡ Some f
-        → (list_any (λ y. bytes_eq x y) (map name_of gs) ≡ false → (n : ℕ) (f : Func) → slice_get gs n ≡ Some f → bytes_eq x f.name ≡ false)
+        → (list_any (λ y. bytes_eq x y) (map name_of gs) ≡ false → (n : ℕ) (f : Func) → slice_get gs n ≡ Some f
+        → bytes_eq x f.name ≡ false)
         → bytes_eq x f.name ≡ false
     by true is unlike n at others = absurd (cc)
     by false is unlike zero at others = let same : g ≡ f = cc in ap (λ (h : Func). bytes_eq x h.name) (sym same) ∙ is
@@ -91,7 +93,8 @@ has_main fs equal = by (slice_get fs 9) refl
 
 -- each function of that name is the first of it, and takes no arguments
 pub main_is_first : (fs : List Func) → IsEqualUpToOffsets fs firmware
-    → (n : ℕ) (f : Func) → slice_get fs n ≡ Some f → f.name ≡ name.main → (function_named fs name.main ≡ Some f) × (f.args ≡ [])
+    → (n : ℕ) (f : Func) → slice_get fs n ≡ Some f → f.name ≡ name.main
+    → (function_named fs name.main ≡ Some f) × (f.args ≡ [])
 main_is_first fs equal n f at is =
     let first : function_named fs name.main ≡ Some f =
     ap (function_named fs) (sym is) ∙ first_of_its_name fs (names_differ fs equal) n f at in

@@ -34,13 +34,15 @@ pub record Laws : Type 0 where
   pub one_program : (trees : List Tree) (fs gs : List Func) → Denotes trees fs → Denotes trees gs → fs ≡ gs
   pub trees : (fs : List Func) → IsFirmwareUpToOffsets fs → IsEqualUpToOffsets fs firmware
   pub stays : (fs : List Func) (f : Func) → IsFirmwareUpToOffsets fs → function_named fs name.main ≡ Some f
-      → (m : Memory) (answers : List ℕ) (choices : List Choice) (fuel : ℕ) → StaysGood (call fs f [] m answers choices fuel)
+      → (m : Memory) (answers : List ℕ) (choices : List Choice) (fuel : ℕ)
+      → StaysGood (call fs f [] m answers choices fuel)
   pub first_steps : (layout : Layout) (code : List ℕ) (fs : List Func) (f : Func) (entry : Entry) (args : List ℕ)
       (m : Memory) (answers : List ℕ) (j : Leftover) (n : ℕ)
       → Follows layout code fs f entry args m answers j n → FollowsAtFirst layout code fs f entry args m answers j n
 
 -- the program that a text is accepted as is the one that it stands for
-accepted_firmware : Laws → (text : List ℕ) (fs : List Func) → Accepts text fs → IsFirmwareText text → IsFirmwareUpToOffsets fs
+accepted_firmware : Laws → (text : List ℕ) (fs : List Func) → Accepts text fs → IsFirmwareText text
+    → IsFirmwareUpToOffsets fs
 accepted_firmware laws text fs ((short, ts, reads, denotes), sound) (gs, (us, reads', denotes'), is) =
     let same : ts ≡ us = laws.one_reading text ts us reads reads' in
     let there : Denotes us fs = subst (λ xs. Denotes xs fs) same denotes in
@@ -73,7 +75,8 @@ image_stays laws text fs i accepts does is =
           let found = function_of_entry fs fs i.entries does.described n entry named.0 in
           let f = found.0 in
           let first = main_is_first fs equal n f found.1 (sym found.2.0 ∙ named.1) in
-          let followed = does.follows n f entry found.1 named.0 [] (sym (ap length first.1)) tt m inside answers are j left steps in
+          let followed = does.follows n f entry found.1 named.0 [] (sym (ap length first.1)) tt m inside answers are
+          j left steps in
           let shown = laws.first_steps i.layout i.code fs f entry [] m answers j steps followed in
           stays_for steps (first_moment (start i.layout i.code entry.offset [] m j) answers)
           (call fs f [] m answers shown.0 steps) (laws.stays fs f fine first.0 m answers shown.0 steps) shown.2;

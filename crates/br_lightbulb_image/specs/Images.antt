@@ -16,7 +16,8 @@ use Rattle.br_compile.specs.FirstSteps.{DoesNotTrap, first_moment}
 abbrev pub IsFirmwareText : List ℕ → Type 0
 IsFirmwareText text = (fs : List Func) × IsProgramOf text fs × IsFirmwareUpToOffsets fs
 
--- none of the first n steps traps, and a member of the trace language begins with the events of them
+-- none of the first n steps traps, and a member of the trace
+-- language begins with the events of them
 pub record StaysGoodFor (n : ℕ) (m : Moment) : Type 0 where
   pub no_trap : (k : ℕ) → k < n → DoesNotTrap (next_step (after_steps k m)).1
   pub good : BeginsGood (after_steps n m).trace
@@ -25,12 +26,13 @@ pub record StaysGoodFor (n : ℕ) (m : Moment) : Type 0 where
 abbrev pub IsMain : Image → ℕ → Entry → Type 0
 IsMain i n entry = (slice_get i.entries n ≡ Some entry) × (entry.name ≡ name.main)
 
--- The image has an entry `main` without arguments. From there, for every memory in the data region, answers
--- of devices and leftover contents, every number of steps stays in the trace language.
+-- The image has an entry `main` without arguments. From there, for every memory in the data region,
+-- answers of devices and leftover contents, every number of steps stays in the trace language.
 pub record ImageStaysGood (i : Image) : Type 0 where
   pub main : (n : ℕ) × (entry : Entry) × IsMain i n entry × (entry.args ≡ 0)
   pub stays : (n : ℕ) (entry : Entry) → IsMain i n entry
       → (m : Memory) → IsInData m
       → (answers : List ℕ) → AreWords answers
       → (j : Leftover) → IsLeftover j
-      → (steps : ℕ) → StaysGoodFor steps (first_moment (start i.layout i.code entry.offset [] m j) answers)
+      → (steps : ℕ)
+      → StaysGoodFor steps (first_moment (start i.layout i.code entry.offset [] m j) answers)

@@ -1,5 +1,5 @@
-// What follows from the contracts of the firmware and of the compiler. The function does nothing: its
-// contract is a law.
+// What follows from the contracts of the firmware and of the compiler. The
+// function does nothing: its contract is a law.
 
 ghost use Rattle.std.specs.Prelude.{ℕ, List};
 ghost use Rattle.br_syntax.specs.declared.program.Func.{Func};
@@ -14,9 +14,9 @@ use br_sexpr::one_answer;
 use br_syntax::one_meaning;
 
 /// Each image that the compiler may answer for a text that stands for the firmware: it has an entry
-/// `main` without arguments, and from there, with any memory, whatever the devices answer and whatever
-/// registers and memory are left with, no step traps, and after any number of steps a member of the
-/// trace language begins with the events.
+/// `main` without arguments, and from there, with any memory, whatever the devices answer and
+/// whatever registers and memory are left with, no step traps, and after any number of steps a
+/// member of the trace language begins with the events.
 pub fn firmware_images_stay_good()
     ensures { (text : List ℕ) (fs : List Func) (image : Image) →
         Accepts text fs → Implements image fs → IsFirmwareText text → ImageStaysGood image }

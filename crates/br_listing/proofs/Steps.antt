@@ -6,7 +6,8 @@ use Rattle.std.proofs.lemmas.List.{drop_more}
 -- what stands for the items from a place on begins with what stands for the first of them
 pub from_place : (f : ℕ × ℕ → List ℕ) (xs : List ℕ) (i : ℕ)
     → i < length xs
-    → flat_map f (enumerate_from i (drop i xs)) ≡ f (i, get_or xs i 0) ++ flat_map f (enumerate_from (i + 1) (drop (i + 1) xs))
+    → flat_map f (enumerate_from i (drop i xs))
+    ≡ f (i, get_or xs i 0) ++ flat_map f (enumerate_from (i + 1) (drop (i + 1) xs))
 from_place f xs i h = ap (λ (ys : List ℕ). flat_map f (enumerate_from i ys)) (drop_more xs i 0 h)
 
 -- two pieces that were to come are there

@@ -1,4 +1,5 @@
--- The listing of an image: a line for each word, and before it a line for each function that begins there.
+-- The listing of an image: a line for each word, and before it a
+-- line for each function that begins there.
 use Rattle.std.specs.Prelude.{ℕ, ◌+◌, ◌*◌, nat_eq, List, ◌∷◌, ◌++◌, codes, Option, Some, None}
 use Rattle.std.specs.List.{filter, flat_map, enumerate_from}
 use Rattle.br_words.specs.declared.layout.Layout.{Layout}
@@ -25,11 +26,13 @@ text_or_word None = codes ".word"
 
 -- the line of a word: its address, the word, and the text of the instruction that it is
 abbrev pub word_line : ℕ → ℕ → List ℕ
-word_line address word = line (word_text address ++ 32 ∷ (word_text word ++ 32 ∷ text_or_word (row_of word)))
+word_line address word =
+    line (word_text address ++ 32 ∷ (word_text word ++ 32 ∷ text_or_word (row_of word)))
 
 -- what stands for the word at a place: the functions that begin there, and its line
 abbrev pub lines_at : Layout → List Entry → ℕ × ℕ → List ℕ
-lines_at layout entries p = labels_at entries (4 * p.0) ++ word_line (code_base layout + 4 * p.0) p.1
+lines_at layout entries p =
+    labels_at entries (4 * p.0) ++ word_line (code_base layout + 4 * p.0) p.1
 
 -- the listing of all words in order
 unfoldable pub list_text : Image → List ℕ

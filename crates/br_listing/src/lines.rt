@@ -36,13 +36,14 @@ pub fn list(alloc: Global, image: &Image) -> Result<Vec<u8>, NoMemory>
     Ok(text)
 }
 
-/// Adds the lines of the functions that begin at an offset.
+// Adds the lines of the functions that begin at an offset.
 fn list_labels(
     text: &mut Vec<u8>,
     labels: &BTreeMap<u32, Vec<u8>>,
     offset: u32,
 ) -> Result<(), NoMemory>
-    ensures { OnOk result (text.new.items ≡ text.old.items ++ bytes_or_none (get nat_cmp labels.now offset)) }
+    ensures { OnOk result
+        (text.new.items ≡ text.old.items ++ bytes_or_none (get nat_cmp labels.now offset)) }
 {
     if let Some(lines) = labels.get(&offset) {
         text.extend_from_slice(lines)?;
@@ -50,7 +51,7 @@ fn list_labels(
     Ok(())
 }
 
-/// Adds the line of a word.
+// Adds the line of a word.
 fn list_word(alloc: Global, text: &mut Vec<u8>, address: u32, word: u32) -> Result<(), NoMemory>
     ensures { OnOk result (text.new.items ≡ text.old.items ++ word_line address word) }
 {
@@ -61,7 +62,7 @@ fn list_word(alloc: Global, text: &mut Vec<u8>, address: u32, word: u32) -> Resu
     Ok(())
 }
 
-/// Adds the digits of a word and a space.
+// Adds the digits of a word and a space.
 fn list_digits(text: &mut Vec<u8>, word: u32) -> Result<(), NoMemory>
     ensures { OnOk result (text.new.items ≡ text.old.items ++ (word_text word ++ 32 ∷ [])) }
 {
@@ -70,7 +71,7 @@ fn list_digits(text: &mut Vec<u8>, word: u32) -> Result<(), NoMemory>
     Ok(())
 }
 
-/// Adds the text of the instruction that a word is.
+// Adds the text of the instruction that a word is.
 fn list_instruction(alloc: Global, text: &mut Vec<u8>, word: u32) -> Result<(), NoMemory>
     ensures { OnOk result (text.new.items ≡ text.old.items ++ text_or_word (row_of word)) }
 {

@@ -1,5 +1,6 @@
 -- Sets of names with numbers added and taken away, and how summaries hand on what is live.
-use Rattle.std.proofs.Common.{◌≡◌, ℕ, zero, suc, ◌+◌, ◌<◌, Bool, true, false, not, ◌&&◌, ◌||◌, List, [], ◌∷◌, ◌==◌, length, get_or, drop, refl, sym, ap, ◌∙◌, arith, IsTrue, nat_lt}
+use Rattle.std.proofs.Common.{◌≡◌, ℕ, zero, suc, ◌+◌, ◌<◌, Bool, true, false, not, ◌&&◌, ◌||◌, List, []}
+use Rattle.std.proofs.Common.{◌∷◌, ◌==◌, length, get_or, drop, refl, sym, ap, ◌∙◌, arith, IsTrue, nat_lt}
 use Rattle.std.proofs.Math.Path.{fun_ext}
 use Rattle.std.proofs.Math.Bool.{or-false, and-true}
 use Rattle.std.proofs.lemmas.Bool.{and_parts, ltb-true}
@@ -27,12 +28,15 @@ union-none a = fun_ext (λ y. or-false (a y))
 pub without-none : (a : Names) → without a [] ≡ a
 without-none a = fun_ext (λ y. and-true (a y))
 
-pub union-more : (a : Names) (xs : List ℕ) (i d : ℕ) → i < length xs → union (union a (is_in (get_or xs i d ∷ []))) (is_in (drop (i + 1) xs)) ≡ union a (is_in (drop i xs))
+pub union-more : (a : Names) (xs : List ℕ) (i d : ℕ) → i < length xs
+    → union (union a (is_in (get_or xs i d ∷ []))) (is_in (drop (i + 1) xs)) ≡ union a (is_in (drop i xs))
 union-more a xs i d inside =
     let split : drop i xs ≡ get_or xs i d ∷ drop (i + 1) xs = grind (arith, common_steps) in
-    fun_ext (λ y. or_assoc (a y) (get_or xs i d == y) (is_in (drop (i + 1) xs) y)) ∙ ap (λ ys. union a (is_in ys)) (sym split)
+    fun_ext (λ y. or_assoc (a y) (get_or xs i d == y) (is_in (drop (i + 1) xs) y))
+    ∙ ap (λ ys. union a (is_in ys)) (sym split)
 
-pub without-more : (a : Names) (xs : List ℕ) (i d : ℕ) → i < length xs → without (without a (get_or xs i d ∷ [])) (drop (i + 1) xs) ≡ without a (drop i xs)
+pub without-more : (a : Names) (xs : List ℕ) (i d : ℕ) → i < length xs
+    → without (without a (get_or xs i d ∷ [])) (drop (i + 1) xs) ≡ without a (drop i xs)
 without-more a xs i d inside =
     let split : drop i xs ≡ get_or xs i d ∷ drop (i + 1) xs = grind (arith, common_steps) in
     fun_ext (λ y. and_nor (a y) (get_or xs i d == y) (is_in (drop (i + 1) xs) y)) ∙ ap (without a) (sym split)
@@ -76,13 +80,16 @@ more true true false q = refl
 more true false r q = refl
 
 -- the names of one statement, or of statements, before others
-pub hands-later : (after w v r q : Names) → union (difference after (union w v)) (union (difference r v) q) ≡ union (difference (union (difference after w) r) v) q
+pub hands-later : (after w v r q : Names) → union (difference after (union w v)) (union (difference r v) q)
+    ≡ union (difference (union (difference after w) r) v) q
 hands-later after w v r q = fun_ext (λ x. later (after x) (w x) (v x) (r x) (q x))
 
-pub hands-either : (after w v r q : Names) → union (difference after (common w v)) (union r q) ≡ union (union (difference after w) r) (union (difference after v) q)
+pub hands-either : (after w v r q : Names) → union (difference after (common w v)) (union r q)
+    ≡ union (union (difference after w) r) (union (difference after v) q)
 hands-either after w v r q = fun_ext (λ x. either (after x) (w x) (v x) (r x) (q x))
 
-pub hands-more : (after w r q v : Names) → union (difference after w) (union r q) ≡ union (union (difference after w) r) (union (difference nothing v) q)
+pub hands-more : (after w r q v : Names)
+    → union (difference after w) (union r q) ≡ union (union (difference after w) r) (union (difference nothing v) q)
 hands-more after w r q v = fun_ext (λ x. more (after x) (w x) (r x) (q x))
 
 pub hands-none : (after : Names) → union (difference after nothing) nothing ≡ after

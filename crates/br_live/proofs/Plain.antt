@@ -5,15 +5,19 @@ use Rattle.br_words.specs.declared.size.Size.{Size}
 use Rattle.br_flatimp.specs.declared.program.Operand.{Operand}
 use Rattle.br_flatimp.specs.declared.program.Stmt.{Stmt}
 use Rattle.br_flatimp.specs.declared.program.Stmt.TheOpen.{Stmt-F}
-use Rattle.br_flatimp.specs.declared.program.Stmt.TheVariants.{Lit, Copy, Op, Load, Store, Table, Call, Read, Write, rolls-Lit, rolls-Copy, rolls-Op, rolls-Load, rolls-Store, rolls-Table, rolls-Call, rolls-Read, rolls-Write}
+use Rattle.br_flatimp.specs.declared.program.Stmt.TheVariants.{Lit, Copy, Op, Load, Store, Table, Call, Read, Write}
+use Rattle.br_flatimp.specs.declared.program.Stmt.TheVariants.{rolls-Lit, rolls-Copy, rolls-Op, rolls-Load, rolls-Store}
+use Rattle.br_flatimp.specs.declared.program.Stmt.TheVariants.{rolls-Table, rolls-Call, rolls-Read, rolls-Write}
 use Rattle.br_flatimp.specs.declared.program.Stmt.TheFolds.{fold-roll-Stmt}
 use Rattle.br_flatimp.specs.Values.{Names}
 use Rattle.br_flatimp.specs.Liveness.{is_in, union, without, Live, live_step, live, before}
-use Rattle.br_live.specs.Own.{own_read, own_written}
+use Rattle.br_flatimp.specs.Parts.{own_read, own_written}
 use Rattle.br_live.specs.Tables.{rows_after}
 use Rattle.br_live.specs.Turns.{turns_of}
-use Rattle.br_live.proofs.Own.{plain-lit, plain-copy, plain-op, plain-load, plain-store, plain-table, plain-call, plain-read, plain-write}
-use Rattle.br_live.proofs.Turns.{turns-lit, turns-copy, turns-op, turns-load, turns-store, turns-table, turns-call, turns-read, turns-write}
+use Rattle.br_live.proofs.Own.{plain-lit, plain-copy, plain-op, plain-load, plain-store}
+use Rattle.br_live.proofs.Own.{plain-table, plain-call, plain-read, plain-write}
+use Rattle.br_live.proofs.Turns.{turns-lit, turns-copy, turns-op, turns-load, turns-store}
+use Rattle.br_live.proofs.Turns.{turns-table, turns-call, turns-read, turns-write}
 use Rattle.br_live.proofs.Rows.{row_with}
 
 abbrev pub IsPlain : Stmt → Type 0
@@ -37,45 +41,54 @@ pub plain : (s : Stmt) → IsPlain s → Plain s
 plain s (inl e) = subst Plain (sym e.2) (record {
   hands = plain-lit e.0 e.1;
   turns = λ b. turns-lit b e.0 e.1;
-  sets = λ b a. ap (λ (l : Live). reverse (rows_after b (l.moments a))) (ap live (sym (rolls-Lit e.0 e.1)) ∙ fold-roll-Stmt Live live_step (Stmt-F.Lit e.0 e.1));
+  sets = λ b a. ap (λ (l : Live). reverse (rows_after b (l.moments a)))
+      (ap live (sym (rolls-Lit e.0 e.1)) ∙ fold-roll-Stmt Live live_step (Stmt-F.Lit e.0 e.1));
 })
 plain s (inr (inl e)) = subst Plain (sym e.2) (record {
   hands = plain-copy e.0 e.1;
   turns = λ b. turns-copy b e.0 e.1;
-  sets = λ b a. ap (λ (l : Live). reverse (rows_after b (l.moments a))) (ap live (sym (rolls-Copy e.0 e.1)) ∙ fold-roll-Stmt Live live_step (Stmt-F.Copy e.0 e.1));
+  sets = λ b a. ap (λ (l : Live). reverse (rows_after b (l.moments a)))
+      (ap live (sym (rolls-Copy e.0 e.1)) ∙ fold-roll-Stmt Live live_step (Stmt-F.Copy e.0 e.1));
 })
 plain s (inr (inr (inl e))) = subst Plain (sym e.4) (record {
   hands = plain-op e.0 e.1 e.2 e.3;
   turns = λ b. turns-op b e.0 e.1 e.2 e.3;
-  sets = λ b a. ap (λ (l : Live). reverse (rows_after b (l.moments a))) (ap live (sym (rolls-Op e.0 e.1 e.2 e.3)) ∙ fold-roll-Stmt Live live_step (Stmt-F.Op e.0 e.1 e.2 e.3));
+  sets = λ b a. ap (λ (l : Live). reverse (rows_after b (l.moments a)))
+      (ap live (sym (rolls-Op e.0 e.1 e.2 e.3)) ∙ fold-roll-Stmt Live live_step (Stmt-F.Op e.0 e.1 e.2 e.3));
 })
 plain s (inr (inr (inr (inl e)))) = subst Plain (sym e.4) (record {
   hands = plain-load e.0 e.1 e.2 e.3;
   turns = λ b. turns-load b e.0 e.1 e.2 e.3;
-  sets = λ b a. ap (λ (l : Live). reverse (rows_after b (l.moments a))) (ap live (sym (rolls-Load e.0 e.1 e.2 e.3)) ∙ fold-roll-Stmt Live live_step (Stmt-F.Load e.0 e.1 e.2 e.3));
+  sets = λ b a. ap (λ (l : Live). reverse (rows_after b (l.moments a)))
+      (ap live (sym (rolls-Load e.0 e.1 e.2 e.3)) ∙ fold-roll-Stmt Live live_step (Stmt-F.Load e.0 e.1 e.2 e.3));
 })
 plain s (inr (inr (inr (inr (inl e))))) = subst Plain (sym e.4) (record {
   hands = plain-store e.0 e.1 e.2 e.3;
   turns = λ b. turns-store b e.0 e.1 e.2 e.3;
-  sets = λ b a. ap (λ (l : Live). reverse (rows_after b (l.moments a))) (ap live (sym (rolls-Store e.0 e.1 e.2 e.3)) ∙ fold-roll-Stmt Live live_step (Stmt-F.Store e.0 e.1 e.2 e.3));
+  sets = λ b a. ap (λ (l : Live). reverse (rows_after b (l.moments a)))
+      (ap live (sym (rolls-Store e.0 e.1 e.2 e.3)) ∙ fold-roll-Stmt Live live_step (Stmt-F.Store e.0 e.1 e.2 e.3));
 })
 plain s (inr (inr (inr (inr (inr (inl e)))))) = subst Plain (sym e.4) (record {
   hands = plain-table e.0 e.1 e.2 e.3;
   turns = λ b. turns-table b e.0 e.1 e.2 e.3;
-  sets = λ b a. ap (λ (l : Live). reverse (rows_after b (l.moments a))) (ap live (sym (rolls-Table e.0 e.1 e.2 e.3)) ∙ fold-roll-Stmt Live live_step (Stmt-F.Table e.0 e.1 e.2 e.3));
+  sets = λ b a. ap (λ (l : Live). reverse (rows_after b (l.moments a)))
+      (ap live (sym (rolls-Table e.0 e.1 e.2 e.3)) ∙ fold-roll-Stmt Live live_step (Stmt-F.Table e.0 e.1 e.2 e.3));
 })
 plain s (inr (inr (inr (inr (inr (inr (inl e))))))) = subst Plain (sym e.3) (record {
   hands = plain-call e.0 e.1 e.2;
   turns = λ b. turns-call b e.0 e.1 e.2;
-  sets = λ b a. ap (λ (l : Live). reverse (rows_after b (l.moments a))) (ap live (sym (rolls-Call e.0 e.1 e.2)) ∙ fold-roll-Stmt Live live_step (Stmt-F.Call e.0 e.1 e.2));
+  sets = λ b a. ap (λ (l : Live). reverse (rows_after b (l.moments a)))
+      (ap live (sym (rolls-Call e.0 e.1 e.2)) ∙ fold-roll-Stmt Live live_step (Stmt-F.Call e.0 e.1 e.2));
 })
 plain s (inr (inr (inr (inr (inr (inr (inr (inl e)))))))) = subst Plain (sym e.2) (record {
   hands = plain-read e.0 e.1;
   turns = λ b. turns-read b e.0 e.1;
-  sets = λ b a. ap (λ (l : Live). reverse (rows_after b (l.moments a))) (ap live (sym (rolls-Read e.0 e.1)) ∙ fold-roll-Stmt Live live_step (Stmt-F.Read e.0 e.1));
+  sets = λ b a. ap (λ (l : Live). reverse (rows_after b (l.moments a)))
+      (ap live (sym (rolls-Read e.0 e.1)) ∙ fold-roll-Stmt Live live_step (Stmt-F.Read e.0 e.1));
 })
 plain s (inr (inr (inr (inr (inr (inr (inr (inr e)))))))) = subst Plain (sym e.2) (record {
   hands = plain-write e.0 e.1;
   turns = λ b. turns-write b e.0 e.1;
-  sets = λ b a. ap (λ (l : Live). reverse (rows_after b (l.moments a))) (ap live (sym (rolls-Write e.0 e.1)) ∙ fold-roll-Stmt Live live_step (Stmt-F.Write e.0 e.1));
+  sets = λ b a. ap (λ (l : Live). reverse (rows_after b (l.moments a)))
+      (ap live (sym (rolls-Write e.0 e.1)) ∙ fold-roll-Stmt Live live_step (Stmt-F.Write e.0 e.1));
 })

@@ -2,5 +2,4 @@ pub mod Sets
 pub mod BitSets
 pub mod Tables
 pub mod Summaries
-pub mod Own
 pub mod Turns

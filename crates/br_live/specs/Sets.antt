@@ -1,5 +1,6 @@
 -- Sets of numbers below a bound, and the words that hold them bit by bit.
-use Rattle.std.specs.Prelude.{ℕ, ◌+◌, ◌/◌, ◌%◌, ◌≤◌, ◌≡◌, Bool, false, not, ◌&&◌, ◌||◌, List, length, slice_index, ◌==◌}
+use Rattle.std.specs.Prelude.{ℕ, ◌+◌, ◌/◌, ◌%◌, ◌≤◌, ◌≡◌, Bool, false, not}
+use Rattle.std.specs.Prelude.{◌&&◌, ◌||◌, List, length, slice_index, ◌==◌}
 use Rattle.std.specs.Int.{bit_at}
 use Rattle.br_flatimp.specs.Values.{Names}
 use Rattle.br_live.specs.declared.words.Join.{Join}

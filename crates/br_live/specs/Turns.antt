@@ -14,12 +14,17 @@ pub record LoopTurn : Type 0 where
   pub bound : ℕ
   -- what is live before the first part, when it is known what is live at the test
   pub opening : Names → Names
-  -- what is live before the last part with the first part after it, where nothing is live at the end of that
+  -- what is live before the last part with the first part after it,
+  -- where nothing is live at the end of that
   pub again : Names
 
 -- what a turn that is kept says
 abbrev pub turn_of : Turn → LoopTurn
-turn_of t = record { bound = t.opening.reads.bound; opening = handed t.opening; again = handed t.again nothing }
+turn_of t = record {
+  bound = t.opening.reads.bound;
+  opening = handed t.opening;
+  again = handed t.again nothing;
+}
 
 -- a statement beside the turns of the loops in it
 pub record Turned : Type 0 where

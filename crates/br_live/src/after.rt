@@ -2,7 +2,8 @@
 
 ghost use Rattle.std.specs.Prelude.{◌≡◌, ◌++◌, IfOk, IsTrue, List, OnOk, map, reverse};
 ghost use Rattle.std.specs.List.{flat_map};
-ghost use Rattle.br_flatimp.specs.Liveness.{before, before_all, function_moments, live, moments, nothing};
+ghost use Rattle.br_flatimp.specs.Liveness.{before, before_all, function_moments};
+ghost use Rattle.br_flatimp.specs.Liveness.{live, moments, nothing};
 ghost use Rattle.br_flatimp.specs.Parts.{function_names, statement_names};
 ghost use Rattle.br_flatimp.specs.WellFormed.{are_below};
 ghost use Rattle.br_live.specs.Summaries.{handed};
@@ -18,11 +19,11 @@ use br_base::NoMemory;
 use br_flatimp::{FlatFunc, Stmt};
 use std::alloc::Global;
 
-/// Which names are live after each statement of a function: the least that it may be. Each statement
-/// is looked at twice, however deep loops stand in one another: for what it and those in its parts
-/// read and write, and then for what is live after it. Each time takes a few steps for each 32 names
-/// of the function. While it works it takes as much memory as four more sets for each loop, and a
-/// few sets for each statement that others stand in, one in the other.
+/// Which names are live after each statement of a function: the least that it may be. Each
+/// statement is looked at twice, however deep loops stand in one another: for what it and those in
+/// its parts read and write, and then for what is live after it. Each time takes a few steps for
+/// each 32 names of the function. While it works it takes as much memory as four more sets for each
+/// loop, and a few sets for each statement that others stand in, one in the other.
 pub fn live_after(alloc: Global, f: &FlatFunc) -> Result<LiveTable, NoMemory>
     requires { IsTrue (are_below f.now.names (function_names f.now)) }
     ensures { IfOk result (λ t. rows t ≡ rows_after f.now.names (function_moments f.now)) }
@@ -86,7 +87,8 @@ fn add_sets_of(
     requires turns { EndsWith
         (map turn_of turns.old.items) (turns_of so_far.old.reads.bound s.now) }
     ensures bound { OnOk result (so_far.new.reads.bound ≡ so_far.old.reads.bound) }
-    ensures live { OnOk result (handed so_far.new nothing ≡ before s.now (handed so_far.old nothing)) }
+    ensures live { OnOk result
+        (handed so_far.new nothing ≡ before s.now (handed so_far.old nothing)) }
     ensures turns { OnOk result ((rest : List LoopTurn) →
         map turn_of turns.old.items ≡ rest ++ turns_of so_far.old.reads.bound s.now →
         map turn_of turns.new.items ≡ rest) }

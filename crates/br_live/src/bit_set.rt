@@ -1,6 +1,7 @@
 // Sets of numbers below a bound, a bit for each number.
 
-ghost use Rattle.std.specs.Prelude.{◌≡◌, ◌≢◌, ℕ, ◌+◌, ◌/◌, ◌%◌, ◌*◌, ◌<◌, ◌≤◌, ◌∷◌, [], length, slice_index, IfOk, IsTrue, ◌↔◌, if◌then◌else◌};
+ghost use Rattle.std.specs.Prelude.{◌≡◌, ◌≢◌, ℕ, ◌+◌, ◌/◌, ◌%◌, ◌*◌, ◌<◌, ◌≤◌, ◌∷◌, []};
+ghost use Rattle.std.specs.Prelude.{length, slice_index, IfOk, IsTrue, ◌↔◌, if◌then◌else◌};
 ghost use Rattle.std.specs.Int.{bit_at};
 ghost use Rattle.br_flatimp.specs.Liveness.{is_in, nothing, union, without};
 ghost use Rattle.br_flatimp.specs.WellFormed.{are_below};
@@ -11,8 +12,8 @@ use br_base::NoMemory;
 use std::alloc::Global;
 use std::marker::Model;
 
-/// A set of numbers below a bound. It takes four bytes of memory for each 32 numbers below the bound.
-/// Contracts see the bound, and the set as `set_of`.
+/// A set of numbers below a bound. It takes four bytes of memory for each 32 numbers below the
+/// bound. Contracts see the bound, and the set as `set_of`.
 #[derive(Drop)]
 pub struct BitSet {
     bound: u32,
@@ -137,8 +138,10 @@ impl BitSet {
     pub fn words(&self) -> &[u32]
         ensures count { length result.now ≡ (self.now.bound + 31) / 32 }
         ensures members { (x : ℕ) → x < self.now.bound →
-            bit_at (slice_index result.now (x / 32)) (x % 32) ≡ (if set_of self.now x then 1 else 0) }
-        ensures above { (x : ℕ) → self.now.bound ≤ x → bit_at (slice_index result.now (x / 32)) (x % 32) ≡ 0 }
+            bit_at (slice_index result.now (x / 32)) (x % 32)
+            ≡ (if set_of self.now x then 1 else 0) }
+        ensures above { (x : ℕ) → self.now.bound ≤ x →
+            bit_at (slice_index result.now (x / 32)) (x % 32) ≡ 0 }
     {
         self.words.as_slice()
     }

@@ -5,7 +5,7 @@ ghost use Rattle.br_flatimp.specs.Liveness.{is_in, nothing, union, without};
 ghost use Rattle.br_flatimp.specs.Parts.{statement_names};
 ghost use Rattle.br_flatimp.specs.Values.{Names};
 ghost use Rattle.br_flatimp.specs.WellFormed.{are_below};
-ghost use Rattle.br_live.specs.Own.{own_read, own_written};
+ghost use Rattle.br_flatimp.specs.Parts.{own_read, own_written};
 
 use crate::bit_set::BitSet;
 use br_base::NoMemory;
@@ -38,7 +38,8 @@ impl Summary {
     /// The same once more.
     pub fn copy(&self, alloc: Global) -> Result<Summary, NoMemory>
         ensures bound { IfOk result (λ s. s.reads.bound ≡ self.now.reads.bound) }
-        ensures hands { IfOk result (λ s. (after : Names) → handed s after ≡ handed self.now after) }
+        ensures hands { IfOk result
+            (λ s. (after : Names) → handed s after ≡ handed self.now after) }
     {
         let reads = self.reads.copy(alloc)?;
         let writes = self.writes.copy(alloc)?;
@@ -50,10 +51,13 @@ impl Summary {
         requires written { IsTrue (are_below self.old.reads.bound writes.now) }
         requires read { IsTrue (are_below self.old.reads.bound reads.now) }
         ensures bound { self.new.reads.bound ≡ self.old.reads.bound }
-        ensures reads { set_of self.new.reads ≡ union (without (set_of self.old.reads) writes.now) (is_in reads.now) }
-        ensures writes { set_of self.new.writes ≡ union (set_of self.old.writes) (is_in writes.now) }
+        ensures reads { set_of self.new.reads
+            ≡ union (without (set_of self.old.reads) writes.now) (is_in reads.now) }
+        ensures writes { set_of self.new.writes
+            ≡ union (set_of self.old.writes) (is_in writes.now) }
         ensures hands { (after : Names) →
-            handed self.new after ≡ union (without (handed self.old after) writes.now) (is_in reads.now) }
+            handed self.new after
+            ≡ union (without (handed self.old after) writes.now) (is_in reads.now) }
     {
         self.reads.remove_all(writes);
         self.reads.insert_all(reads);
@@ -64,7 +68,8 @@ impl Summary {
     pub fn prepend(&mut self, earlier: &Summary)
         requires { self.old.reads.bound ≡ earlier.now.reads.bound }
         ensures bound { self.new.reads.bound ≡ self.old.reads.bound }
-        ensures hands { (after : Names) → handed self.new after ≡ handed earlier.now (handed self.old after) }
+        ensures hands { (after : Names) →
+            handed self.new after ≡ handed earlier.now (handed self.old after) }
     {
         self.reads.subtract(&earlier.writes);
         self.reads.union_with(&earlier.reads);
@@ -92,13 +97,16 @@ impl Summary {
         self.reads.union_with(&other.reads);
     }
 
-    /// Puts the names that a statement writes and reads itself, its parts aside, before the statements.
+    /// Puts the names that a statement writes and reads itself,
+    /// its parts aside, before the statements.
     #[tactic(auto, using(crate::proofs::Own::own_lists))]
     pub(crate) fn own_names(&mut self, s: &Stmt)
         requires { IsTrue (are_below self.old.reads.bound (statement_names s.now)) }
         ensures bound { self.new.reads.bound ≡ self.old.reads.bound }
-        ensures reads { set_of self.new.reads ≡ union (without (set_of self.old.reads) (own_written s.now)) (is_in (own_read s.now)) }
-        ensures writes { set_of self.new.writes ≡ union (set_of self.old.writes) (is_in (own_written s.now)) }
+        ensures reads { set_of self.new.reads
+            ≡ union (without (set_of self.old.reads) (own_written s.now)) (is_in (own_read s.now)) }
+        ensures writes { set_of self.new.writes
+            ≡ union (set_of self.old.writes) (is_in (own_written s.now)) }
     {
         match s {
             Stmt::Lit(x, _) | Stmt::Stackalloc(x, _, _) => self.own(&[*x], &[]),
@@ -124,7 +132,8 @@ impl Summary {
         requires { IsTrue (are_below self.old.reads.bound (statement_names s.now)) }
         ensures bound { self.new.reads.bound ≡ self.old.reads.bound }
         ensures hands { (after : Names) →
-            handed self.new after ≡ union (without (handed self.old after) (own_written s.now)) (is_in (own_read s.now)) }
+            handed self.new after ≡ union (without (handed self.old after) (own_written s.now))
+            (is_in (own_read s.now)) }
     {
         self.own_names(s);
     }

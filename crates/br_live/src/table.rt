@@ -4,10 +4,10 @@ ghost use Rattle.std.specs.Prelude.{◌≡◌, ◌<◌, length, map};
 
 use crate::bit_set::BitSet;
 
-/// The names that are live after each statement of a function, by the statement's number in preorder,
-/// counted from 0. It keeps one set for each statement, so it takes four bytes of memory for each 32
-/// names of each statement: a function of 32,768 statements and as many names takes 128 MiB.
-/// Contracts see the statements' sets as `rows`.
+/// The names that are live after each statement of a function, by the statement's number in
+/// preorder, counted from 0. It keeps one set for each statement, so it takes four bytes of memory
+/// for each 32 names of each statement: a function of 32,768 statements and as many names takes 128
+/// MiB. Contracts see the statements' sets as `rows`.
 #[derive(Drop)]
 pub struct LiveTable {
     sets: Vec<BitSet>,
@@ -22,6 +22,14 @@ impl LiveTable {
         ensures { rows result ≡ map row sets.items }
     {
         LiveTable { sets }
+    }
+
+    /// Of how many statements it tells.
+    #[cfg(test)]
+    pub(crate) fn len(&self) -> usize
+        ensures { result ≡ length (rows self.now) }
+    {
+        self.sets.len()
     }
 
     /// Whether a name is live after a statement.

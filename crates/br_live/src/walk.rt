@@ -15,8 +15,8 @@ use br_base::NoMemory;
 use br_flatimp::Stmt;
 use std::alloc::Global;
 
-/// The summary of statements in turn. The turns of the loops in them are added, that of a loop after
-/// those in its parts.
+/// The summary of statements in turn. The turns of the loops in them are added,
+/// that of a loop after those in its parts.
 #[cycle(statement)]
 pub fn summary_of_all(
     alloc: Global,
@@ -26,7 +26,8 @@ pub fn summary_of_all(
 ) -> Result<Summary, NoMemory>
     requires { IsTrue (are_below names (flat_map statement_names body.now)) }
     ensures bound { IfOk result (λ s. s.reads.bound ≡ names) }
-    ensures hands { IfOk result (λ s. (after : Names) → handed s after ≡ before_all body.now after) }
+    ensures hands { IfOk result
+        (λ s. (after : Names) → handed s after ≡ before_all body.now after) }
     ensures turns { OnOk result
         (map turn_of turns.new.items ≡ map turn_of turns.old.items ++ all_turns names body.now) }
 {

@@ -1,6 +1,7 @@
 // Words that hold sets bit by bit, and how two of them are joined.
 
-ghost use Rattle.std.specs.Prelude.{◌≡◌, ℕ, ◌/◌, ◌<◌, ◌==◌, ◌&&◌, ◌||◌, true, false, not, length, ◌≢◌};
+ghost use Rattle.std.specs.Prelude.{◌≡◌, ℕ, ◌/◌, ◌<◌, ◌==◌, ◌&&◌, ◌||◌};
+ghost use Rattle.std.specs.Prelude.{true, false, not, length, ◌≢◌};
 ghost use Rattle.std.specs.Int.{bit_at};
 ghost use Rattle.br_live.specs.Sets.{joined, members};
 
@@ -36,7 +37,8 @@ pub(crate) fn clear_bit(words: &mut [u32], x: u32)
 /// Joins the first words with the others, and answers whether that changed them.
 pub(crate) fn join_words(how: Join, words: &mut [u32], others: &[u32]) -> bool
     requires { length words.old ≡ length others.now }
-    ensures members { (x : ℕ) → members words.new x ≡ joined how (members words.old x) (members others.now x) }
+    ensures members { (x : ℕ) →
+        members words.new x ≡ joined how (members words.old x) (members others.now x) }
     ensures same { result ≡ false → words.new ≡ words.old }
     ensures changed { result ≡ true → members words.new ≢ members words.old }
 {
@@ -53,7 +55,8 @@ pub(crate) fn join_words(how: Join, words: &mut [u32], others: &[u32]) -> bool
 }
 
 fn joined_word(how: Join, a: u32, b: u32) -> u32
-    ensures { (i : ℕ) → i < 32 → (bit_at result i == 1) ≡ joined how (bit_at a i == 1) (bit_at b i == 1) }
+    ensures { (i : ℕ) → i < 32 →
+        (bit_at result i == 1) ≡ joined how (bit_at a i == 1) (bit_at b i == 1) }
 {
     match how {
         Join::Union => a | b,

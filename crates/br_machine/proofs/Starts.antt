@@ -1,11 +1,14 @@
 -- What is kept when a call begins is the start.
-use Rattle.std.proofs.Common.{◌≡◌, ◌⊎◌, inl, inr, ℕ, ◌+◌, ◌-◌, ◌*◌, ◌%◌, ◌^◌, ◌<◌, ◌≤◌, List, [], ◌++◌, length, replicate, Option, Some, None, Bool, true, false, refl, sym, ap, subst, ◌∙◌, arith, length-append}
+use Rattle.std.proofs.Common.{◌≡◌, ◌⊎◌, inl, inr, ℕ, ◌+◌, ◌-◌, ◌*◌, ◌%◌, ◌^◌, ◌<◌, ◌≤◌}
+use Rattle.std.proofs.Common.{List, [], ◌++◌, length, replicate, Option, Some, None, Bool}
+use Rattle.std.proofs.Common.{true, false, refl, sym, ap, subst, ◌∙◌, arith, length-append}
 use Rattle.std.specs.Prelude.{◌&&◌, nat_le, nat_lt, if◌then◌else◌, slice_index, slice_set, unwrap_or, IfSome}
 use Rattle.std.specs.List.{AllByRecursion}
 use Rattle.std.specs.FinMap as finite
 use Rattle.std.proofs.Math.ListN.{length-set}
 use Rattle.std.proofs.lemmas.Bool.{cases_lt}
-use Rattle.std.proofs.lemmas.List.{get_or_append_left, get_or-append-add, get_or_past, get_or-replicate, length-replicate}
+use Rattle.std.proofs.lemmas.List.{get_or_append_left, get_or-append-add}
+use Rattle.std.proofs.lemmas.List.{get_or_past, get_or-replicate, length-replicate}
 use Rattle.br_bytes.specs.Number.{low_bytes}
 use Rattle.br_bytes.specs.Memory.{Memory}
 use Rattle.br_words.specs.declared.layout.Layout.{Layout}
@@ -16,13 +19,16 @@ use Rattle.br_machine.specs.Junk.{junk_of}
 use Rattle.br_machine.specs.Pages.{IsPaged, page_count}
 use Rattle.br_machine.specs.Kept.{Kept, IsKept, byte_at, bytes_in, first_byte, start_byte}
 use Rattle.br_machine.proofs.Regions.{regions, in_one_region}
-use Rattle.br_machine.proofs.Begins.{HasCode-start, filled-is, index-code, index-data, length-code_bytes, length-start_ram}
-use Rattle.br_machine.proofs.Leftovers.{IsLeftover-junk_of, all_below-at, all_below-code_bytes, all_below-replicate, all_below-with_words, byte-junk_of, length-with_words}
-use Rattle.br_machine.proofs.Words.{all_below-index, all_below-low_bytes, all_below-set}
+use Rattle.br_bytes.proofs.Words.{length-word_bytes, AreBytes-low_bytes, AreBytes-word_bytes}
+use Rattle.br_machine.proofs.Begins.{HasCode-start, filled-is, index-code, index-data, length-start_ram}
+use Rattle.br_machine.proofs.Leftovers.{IsLeftover-junk_of, all_below-at, all_below-replicate}
+use Rattle.br_machine.proofs.Leftovers.{all_below-with_words, byte-junk_of, length-with_words}
+use Rattle.br_machine.proofs.Words.{all_below-index, all_below-set}
 use Rattle.br_machine.proofs.Kept.{bytes_in-is}
 
 -- after the code's bytes there are zeros, as past their end
-index-filled : (l : Layout) (code : List ℕ) (i : ℕ) → i < code_end l - code_base l → slice_index (filled l code) i ≡ slice_index (code_bytes code) i
+index-filled : (l : Layout) (code : List ℕ) (i : ℕ) → i < code_end l - code_base l
+    → slice_index (filled l code) i ≡ slice_index (code_bytes code) i
 index-filled l code i h =
     let n : ℕ = code_end l - code_base l - 4 * length code in
     let zeros : List ℕ = replicate n 0 in
@@ -33,7 +39,7 @@ index-filled l code i h =
           (let k : ℕ = i - length (code_bytes code) in
           let place : i ≡ length (code_bytes code) + k = omega arith in
           ap (slice_index (code_bytes code ++ zeros)) place ∙ get_or-append-add (code_bytes code) zeros k 0
-          ∙ get_or-replicate n k 0 0 (omega (arith, length-code_bytes code))
+          ∙ get_or-replicate n k 0 0 (omega (arith, length-word_bytes code))
           ∙ sym (get_or_past (code_bytes code) i 0 p))
     ]
 
@@ -48,17 +54,20 @@ none_in_code l m a in_data from to = decided (finite.get m a) (in_data a)
       | inr h ↦ (let e : ⊥ = omega arith in e)
     ])
 
-test_true : (l : Layout) (a : ℕ) → code_base l ≤ a → a < code_end l → (nat_le (code_base l) a && nat_lt a (code_end l)) ≡ true
+test_true : (l : Layout) (a : ℕ) → code_base l ≤ a → a < code_end l
+    → (nat_le (code_base l) a && nat_lt a (code_end l)) ≡ true
 test_true l a from to = grind arith
 
-test_false : (l : Layout) (a : ℕ) → data_base ≤ a → a < stack_end → (nat_le (code_base l) a && nat_lt a (code_end l)) ≡ false
+test_false : (l : Layout) (a : ℕ) → data_base ≤ a → a < stack_end
+    → (nat_le (code_base l) a && nat_lt a (code_end l)) ≡ false
 test_false l a from to = elim (regions l).apart [
   | inl h ↦ (let e : (nat_le (code_base l) a && nat_lt a (code_end l)) ≡ false = grind arith in e)
   | inr h ↦ (let e : (nat_le (code_base l) a && nat_lt a (code_end l)) ≡ false = grind arith in e)
 ]
 
 -- a byte of the start
-pub start_byte-is : (l : Layout) (code : List ℕ) (m : Memory) (word place : ℕ) → length code ≤ most_words l → word < 2 ^ 32 → IsInData m → place < ram_size l
+pub start_byte-is : (l : Layout) (code : List ℕ) (m : Memory) (word place : ℕ) → length code ≤ most_words l
+    → word < 2 ^ 32 → IsInData m → place < ram_size l
     → slice_index (start_ram l code m (junk_of word)) place ≡ start_byte l code m word place
 start_byte-is l code m word place few fits in_data inside =
     decided (in_one_region l (ram_base l + place) (omega arith) (omega arith))
@@ -72,7 +81,9 @@ start_byte-is l code m word place few fits in_data inside =
     ram : List ℕ
     ram = start_ram l code m (junk_of word)
 
-    decided : ((code_base l ≤ ram_base l + place) × (ram_base l + place < code_end l)) ⊎ ((data_base ≤ ram_base l + place) × (ram_base l + place < stack_end)) → slice_index ram place ≡ start_byte l code m word place
+    decided : ((code_base l ≤ ram_base l + place) × (ram_base l + place < code_end l))
+        ⊎ ((data_base ≤ ram_base l + place) × (ram_base l + place < stack_end))
+        → slice_index ram place ≡ start_byte l code m word place
     decided (inl (from, to)) =
         let i : ℕ = a - code_base l in
         let at : place ≡ code_place l + i = omega (arith, (regions l).code_in) in
@@ -81,7 +92,8 @@ start_byte-is l code m word place few fits in_data inside =
         let test = test_true l a from to in
         ap (slice_index ram) at ∙ index-code l code m (junk_of word) i few left within ∙ index-filled l code i within
         ∙ sym (ap (λ o. unwrap_or o (first_byte l code word place)) none
-        ∙ ap (λ b. if b then slice_index (code_bytes code) (a - code_base l) else slice_index (low_bytes 4 word) (a % 4)) test)
+        ∙ ap (λ b. if b then slice_index (code_bytes code) (a - code_base l)
+        else slice_index (low_bytes 4 word) (a % 4)) test)
     decided (inr (from, to)) =
         let i : ℕ = a - data_base in
         let at : place ≡ data_base - ram_base l + i = omega (arith, (regions l).data_in) in
@@ -91,40 +103,51 @@ start_byte-is l code m word place few fits in_data inside =
         ∙ ap (λ q. unwrap_or (finite.get m q) (slice_index (junk_of word).bytes i)) here
         ∙ ap (unwrap_or (finite.get m a)) (byte-junk_of word a from to)
         ∙ ap (unwrap_or (finite.get m a))
-        (sym (ap (λ b. if b then slice_index (code_bytes code) (a - code_base l) else slice_index (low_bytes 4 word) (a % 4)) test))
+        (sym (ap (λ b. if b then slice_index (code_bytes code) (a - code_base l)
+        else slice_index (low_bytes 4 word) (a % 4)) test))
 
 -- ---- what is kept at the start
 
-pub bytes_in-start : (l : Layout) (code : List ℕ) (m : Memory) (word : ℕ) (pages : List (Option (List ℕ))) → length code ≤ most_words l → word < 2 ^ 32 → IsInData m
+pub bytes_in-start : (l : Layout) (code : List ℕ) (m : Memory) (word : ℕ) (pages : List (Option (List ℕ)))
+    → length code ≤ most_words l → word < 2 ^ 32 → IsInData m
     → ((place : ℕ) → place < ram_size l → byte_at l code word pages place ≡ start_byte l code m word place)
     → bytes_in l code word pages ≡ start_ram l code m (junk_of word)
 bytes_in-start l code m word pages few fits in_data told =
-    bytes_in-is l code word pages (start_ram l code m (junk_of word)) (length-start_ram l code m (junk_of word) few (IsLeftover-junk_of word fits))
+    bytes_in-is l code word pages (start_ram l code m (junk_of word))
+    (length-start_ram l code m (junk_of word) few (IsLeftover-junk_of word fits))
     (λ place h. told place h ∙ sym (start_byte-is l code m word place few fits in_data h))
 
 first_byte_below : (l : Layout) (code : List ℕ) (word place : ℕ) → first_byte l code word place < 256
-first_byte_below l code word place = either (nat_le (code_base l) (ram_base l + place) && nat_lt (ram_base l + place) (code_end l))
+first_byte_below l code word place =
+    either (nat_le (code_base l) (ram_base l + place) && nat_lt (ram_base l + place) (code_end l))
   where
-    either : (b : Bool) → (if b then slice_index (code_bytes code) (ram_base l + place - code_base l) else slice_index (low_bytes 4 word) ((ram_base l + place) % 4)) < 256
-    either true = all_below-index 256 (code_bytes code) _ (omega arith) (all_below-code_bytes code)
-    either false = all_below-index 256 (low_bytes 4 word) _ (omega arith) (all_below-low_bytes 4 word)
+    either : (b : Bool) → (if b then slice_index (code_bytes code) (ram_base l + place - code_base l)
+        else slice_index (low_bytes 4 word) ((ram_base l + place) % 4)) < 256
+    either true = all_below-index 256 (code_bytes code) _ (omega arith) (AreBytes-word_bytes code)
+    either false = all_below-index 256 (low_bytes 4 word) _ (omega arith) (AreBytes-low_bytes 4 word)
 
-start_byte_below : (l : Layout) (code : List ℕ) (m : Memory) (word place : ℕ) → IsInData m → start_byte l code m word place < 256
+start_byte_below : (l : Layout) (code : List ℕ) (m : Memory) (word place : ℕ) → IsInData m
+    → start_byte l code m word place < 256
 start_byte_below l code m word place in_data = either (finite.get m (ram_base l + place)) (in_data (ram_base l + place))
   where
-    either : (o : Option ℕ) → IfSome o (λ b. (data_base ≤ ram_base l + place) × (ram_base l + place < stack_base) × (b < 256)) → unwrap_or o (first_byte l code word place) < 256
+    either : (o : Option ℕ)
+        → IfSome o (λ b. (data_base ≤ ram_base l + place) × (ram_base l + place < stack_base) × (b < 256))
+        → unwrap_or o (first_byte l code word place) < 256
     either None _ = first_byte_below l code word place
     either (Some b) is = is.2
 
-pub IsKept-start : (l : Layout) (code : List ℕ) (m : Memory) (word : ℕ) (made : List Bool) → length code ≤ most_words l → word < 2 ^ 32 → IsInData m → length made ≡ page_count l
+pub IsKept-start : (l : Layout) (code : List ℕ) (m : Memory) (word : ℕ) (made : List Bool) → length code ≤ most_words l
+    → word < 2 ^ 32 → IsInData m → length made ≡ page_count l
     → IsKept (record { layout = l; code = code; bytes = start_ram l code m (junk_of word); made = made })
 IsKept-start l code m word made few fits in_data count = record {
   few = few;
   pages = count;
   size = size;
   bytes = all_below-at 256 ram (λ i. elim (cases_lt i (ram_size l)) [
-    | inl h ↦ subst (λ b. b < 256) (sym (start_byte-is l code m word i few fits in_data h)) (start_byte_below l code m word i in_data)
-    | inr h ↦ subst (λ b. b < 256) (sym (get_or_past ram i 0 (omega (arith, size)))) (let e : 0 < 256 = omega arith in e)
+    | inl h ↦ subst (λ b. b < 256) (sym (start_byte-is l code m word i few fits in_data h))
+        (start_byte_below l code m word i in_data)
+    | inr h ↦
+        subst (λ b. b < 256) (sym (get_or_past ram i 0 (omega (arith, size)))) (let e : 0 < 256 = omega arith in e)
   ]);
   code = (HasCode-start l code 0 [] m (junk_of word) few (IsLeftover-junk_of word fits)).bytes;
 }
@@ -141,15 +164,26 @@ IsKept-start l code m word made few fits in_data count = record {
 abbrev pub start_registers : ℕ → List ℕ → List ℕ
 start_registers word args = with_words 10 args (slice_set (replicate 32 word) 0 0)
 
-pub IsPaged-start : (k : Kept) (args : List ℕ) (word entry : ℕ) → IsKept k → AllByRecursion (λ x. x < 2 ^ 32) args → word < 2 ^ 32
+pub IsPaged-start : (k : Kept) (args : List ℕ) (word entry : ℕ) → IsKept k → AllByRecursion (λ x. x < 2 ^ 32) args
+    → word < 2 ^ 32
     → entry < code_end k.layout - code_base k.layout → entry % 4 ≡ 0
-    → IsPaged (record { state = record { layout = k.layout; registers = start_registers word args; pc = code_base k.layout + entry; ram = k.bytes; code_words = length k.code }; made = k.made })
+    → IsPaged (record {
+      state = record {
+        layout = k.layout;
+        registers = start_registers word args;
+        pc = code_base k.layout + entry;
+        ram = k.bytes;
+        code_words = length k.code;
+      };
+      made = k.made;
+    })
 IsPaged-start k args word entry is small fits inside even =
     let r = regions k.layout in
     record {
       machine = record {
         registers = length-with_words args _ 10 ∙ length-set (replicate 32 word) 0 0 ∙ length-replicate 32 word;
-        words = all_below-with_words (2 ^ 32) args _ 10 small (all_below-set (2 ^ 32) (replicate 32 word) 0 0 (all_below-replicate (2 ^ 32) 32 word fits) (omega arith));
+        words = all_below-with_words (2 ^ 32) args _ 10 small
+            (all_below-set (2 ^ 32) (replicate 32 word) 0 0 (all_below-replicate (2 ^ 32) 32 word fits) (omega arith));
         pc = omega (arith, r.high, r.code_to);
         aligned = omega (arith, r.aligned);
         ram = is.size;

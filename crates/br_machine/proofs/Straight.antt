@@ -1,5 +1,7 @@
 -- Straight code: one instruction at a time, and one stretch of steps after another.
-use Rattle.std.proofs.Common.{◌≡◌, ◌≢◌, inl, inr, ℕ, zero, suc, ◌+◌, ◌-◌, ◌*◌, ◌^◌, ◌<◌, ◌≤◌, List, [], ◌∷◌, ◌++◌, length, Some, None, Bool, true, false, refl, sym, ap, subst, ◌∙◌, arith, append_assoc, length-append}
+use Rattle.std.proofs.Common.{◌≡◌, ◌≢◌, inl, inr, ℕ, zero, suc, ◌+◌, ◌-◌, ◌*◌, ◌^◌, ◌<◌, ◌≤◌}
+use Rattle.std.proofs.Common.{List, [], ◌∷◌, ◌++◌, length, Some, None, Bool, true, false}
+use Rattle.std.proofs.Common.{refl, sym, ap, subst, ◌∙◌, arith, append_assoc, length-append}
 use Rattle.std.specs.Prelude.{slice_get, slice_index, ◌==◌, nat_lt, ◌%◌, ◌&&◌, if◌then◌else◌, ℤ}
 use Rattle.std.proofs.Math.ListN.{length-set}
 use Rattle.std.proofs.lemmas.Bool.{eqb-true}
@@ -63,11 +65,13 @@ pub length-with_register : (r v : ℕ) (s : MachineState) → length (with_regis
 length-with_register zero v s = refl
 length-with_register (suc r) v s = length-set s.registers (suc r) v
 
-pub register-with_register_same : (r v : ℕ) (s : MachineState) → r ≢ 0 → r < length s.registers → register (with_register r v s) r ≡ v
+pub register-with_register_same : (r v : ℕ) (s : MachineState) → r ≢ 0 → r < length s.registers
+    → register (with_register r v s) r ≡ v
 register-with_register_same zero v s ne h = absurd (ne refl)
 register-with_register_same (suc r) v s ne h = get_or-set_same s.registers (suc r) v 0 h
 
-pub register-with_register_other : (r q v : ℕ) (s : MachineState) → q ≢ r → register (with_register r v s) q ≡ register s q
+pub register-with_register_other : (r q v : ℕ) (s : MachineState) → q ≢ r
+    → register (with_register r v s) q ≡ register s q
 register-with_register_other zero q v s ne = refl
 register-with_register_other (suc r) zero v s ne = refl
 register-with_register_other (suc r) (suc q) v s ne = get_or-set_other s.registers (suc r) (suc q) v 0 ne
@@ -80,15 +84,18 @@ IsAbove-none low b from to in_stack = absurd (omega arith)
 
 -- an instruction that breaks no rule leads on to what its effect says
 pub steps_by : (code : List ℕ) (low : ℕ) (m next : Moment) (j w : ℕ) (i : Ins) (s : MachineState) (how : Stepped)
-    → HasCode code m.machine → slice_get code j ≡ Some w → w < 2 ^ 32 → row_of w ≡ Some i → m.machine.pc ≡ code_base m.machine.layout + 4 * j
+    → HasCode code m.machine → slice_get code j ≡ Some w → w < 2 ^ 32 → row_of w ≡ Some i
+    → m.machine.pc ≡ code_base m.machine.layout + 4 * j
     → trap_of i m.machine ≡ None → effect i m.machine (next_answer m) ≡ (s, how) → moment_after m (s, how) ≡ Some next
     → code_region next.machine ≡ code_region m.machine → IsAbove low (accessed (Some i) m.machine)
     → StepsTo low m next
 steps_by code low m next j w i s how has at small row pc fine does leads region above = record {
-  after = ap (moment_after m) (step-at code m.machine j w i (next_answer m) has at small row pc ∙ ap (λ t. obey i t m.machine (next_answer m)) fine ∙ does) ∙ leads;
+  after = ap (moment_after m) (step-at code m.machine j w i (next_answer m) has at small row pc
+      ∙ ap (λ t. obey i t m.machine (next_answer m)) fine ∙ does) ∙ leads;
   code = region;
   stack =
-      let read : row_of (fetched m.machine) ≡ Some i = ap row_of (fetched-code code m.machine j w has at small pc) ∙ row in
+      let read : row_of (fetched m.machine) ≡ Some i =
+      ap row_of (fetched-code code m.machine j w has at small pc) ∙ row in
       subst (λ r. IsAbove low (accessed r m.machine)) (sym read) above;
 }
 
@@ -98,12 +105,14 @@ code_region-computes (suc rd) v s = refl
 
 -- an instruction that sets a register and goes on after itself
 pub step_computes : (code : List ℕ) (low : ℕ) (m : Moment) (j w : ℕ) (i : Ins) (rd v : ℕ)
-    → HasCode code m.machine → slice_get code j ≡ Some w → w < 2 ^ 32 → row_of w ≡ Some i → m.machine.pc ≡ code_base m.machine.layout + 4 * j
+    → HasCode code m.machine → slice_get code j ≡ Some w → w < 2 ^ 32 → row_of w ≡ Some i
+    → m.machine.pc ≡ code_base m.machine.layout + 4 * j
     → trap_of i m.machine ≡ None → effect i m.machine (next_answer m) ≡ (computes rd v m.machine, Ran)
     → IsAbove low (accessed (Some i) m.machine)
     → StepsTo low m (record m { machine = computes rd v m.machine })
 step_computes code low m j w i rd v has at small row pc fine does above =
-    steps_by code low m (record m { machine = computes rd v m.machine }) j w i (computes rd v m.machine) Ran has at small row pc fine does refl (code_region-computes rd v m.machine) above
+    steps_by code low m (record m { machine = computes rd v m.machine }) j w i (computes rd v m.machine) Ran has at
+    small row pc fine does refl (code_region-computes rd v m.machine) above
 
 -- ---- words of RAM and of devices
 
@@ -111,7 +120,8 @@ in_ram-true : (l : Layout) (a n : ℕ) → ram_base l ≤ a → a + n ≤ ram_en
 in_ram-true l a n from to = grind arith
 
 -- what is in the data region or in the stack region touches no code
-apart_from_code : (l : Layout) (code_words a n : ℕ) → code_words ≤ most_words l → data_base ≤ a → a + n ≤ stack_end → meet a n (code_base l) (4 * code_words) ≡ false
+apart_from_code : (l : Layout) (code_words a n : ℕ) → code_words ≤ most_words l → data_base ≤ a → a + n ≤ stack_end
+    → meet a n (code_base l) (4 * code_words) ≡ false
 apart_from_code l code_words a n few from to =
     let r = regions l in
     let e = r.words in
@@ -123,7 +133,8 @@ apart_from_code l code_words a n few from to =
     not_below : (x y : ℕ) → y ≤ x → nat_lt x y ≡ false
     not_below x y h = grind arith
 
-store_trap-none : (l : Layout) (code_words a : ℕ) → code_words ≤ most_words l → data_base ≤ a → a + 4 ≤ stack_end → store_trap l code_words a 4 ≡ None
+store_trap-none : (l : Layout) (code_words a : ℕ) → code_words ≤ most_words l → data_base ≤ a → a + 4 ≤ stack_end
+    → store_trap l code_words a 4 ≡ None
 store_trap-none l code_words a few from to =
     let r = regions l in
     let inside = in_ram-true l a 4 (omega (arith, r.data_in)) (omega (arith, r.stack_to)) in
@@ -143,7 +154,8 @@ ram_word s a = number_of (bytes_from s.ram (a - ram_base s.layout) 4)
 
 -- a word is stored in the data region or in the stack region, and not below the bound
 pub step_stores_word : (code : List ℕ) (low : ℕ) (m : Moment) (j w rs1 rs2 a : ℕ) (imm : ℤ)
-    → HasCode code m.machine → length code ≤ most_words m.machine.layout → slice_get code j ≡ Some w → w < 2 ^ 32 → row_of w ≡ Some (Store Sw rs1 rs2 imm) → m.machine.pc ≡ code_base m.machine.layout + 4 * j
+    → HasCode code m.machine → length code ≤ most_words m.machine.layout → slice_get code j ≡ Some w → w < 2 ^ 32
+    → row_of w ≡ Some (Store Sw rs1 rs2 imm) → m.machine.pc ≡ code_base m.machine.layout + 4 * j
     → address m.machine rs1 imm ≡ a → data_base ≤ a → a + 4 ≤ stack_end → IsAbove low (a, 4)
     → StepsTo low m (record m { machine = stored a (register m.machine rs2) m.machine })
 step_stores_word code low m j w rs1 rs2 a imm has few at small row pc is from to above =
@@ -154,10 +166,13 @@ step_stores_word code low m j w rs1 rs2 a imm has few at small row pc is from to
     let fine : trap_of (Store Sw rs1 rs2 imm) s ≡ None =
     ap (λ b. store_trap l s.code_words b 4) is ∙ store_trap-none l s.code_words a (omega (arith, has.count)) from to in
     let does : effect (Store Sw rs1 rs2 imm) s (next_answer m) ≡ (stored a (register s rs2) s, Ran) =
-    ap (λ b. if in_ram s.layout b 4 then (stored b (register s rs2) s, Ran) else (moved_on s, Wrote b (register s rs2))) is
+    ap (λ b. if in_ram s.layout b 4 then (stored b (register s rs2) s, Ran) else (moved_on s, Wrote b (register s rs2)))
+    is
     ∙ ap (λ t. if t then (stored a (register s rs2) s, Ran) else (moved_on s, Wrote a (register s rs2))) inside in
-    steps_by code low m _ j w (Store Sw rs1 rs2 imm) (stored a (register s rs2) s) Ran has at small row pc fine does refl
-    (take_drop-with_bytes_from (low_bytes 4 (register s rs2)) s.ram (code_end l - code_base l) (code_place l) (a - ram_base l) (elim r.apart [
+    steps_by code low m _ j w (Store Sw rs1 rs2 imm) (stored a (register s rs2) s) Ran has at small row pc
+    fine does refl
+    (take_drop-with_bytes_from (low_bytes 4 (register s rs2)) s.ram (code_end l - code_base l) (code_place l)
+    (a - ram_base l) (elim r.apart [
       | inl h ↦ inr (omega (arith, r.code_in, r.data_in))
       | inr h ↦ inl (omega (arith, r.code_in, r.data_in))
     ]))
@@ -165,13 +180,16 @@ step_stores_word code low m j w rs1 rs2 a imm has few at small row pc is from to
 
 -- a word is loaded from RAM, and not from below the bound
 pub step_loads_word : (code : List ℕ) (low : ℕ) (m : Moment) (j w rd rs1 a : ℕ) (imm : ℤ)
-    → HasCode code m.machine → slice_get code j ≡ Some w → w < 2 ^ 32 → row_of w ≡ Some (Load Lw rd rs1 imm) → m.machine.pc ≡ code_base m.machine.layout + 4 * j
-    → address m.machine rs1 imm ≡ a → ram_base m.machine.layout ≤ a → a + 4 ≤ ram_end m.machine.layout → IsAbove low (a, 4)
+    → HasCode code m.machine → slice_get code j ≡ Some w → w < 2 ^ 32 → row_of w ≡ Some (Load Lw rd rs1 imm)
+    → m.machine.pc ≡ code_base m.machine.layout + 4 * j
+    → address m.machine rs1 imm ≡ a → ram_base m.machine.layout ≤ a → a + 4 ≤ ram_end m.machine.layout
+    → IsAbove low (a, 4)
     → StepsTo low m (record m { machine = computes rd (ram_word m.machine a) m.machine })
 step_loads_word code low m j w rd rs1 a imm has at small row pc is from to above =
     let s = m.machine in
     let inside = in_ram-true s.layout a 4 from to in
-    let fine : trap_of (Load Lw rd rs1 imm) s ≡ None = ap (λ b. load_trap s.layout b 4) is ∙ load_trap-none s.layout a from to in
+    let fine : trap_of (Load Lw rd rs1 imm) s ≡ None = ap (λ b. load_trap s.layout b 4) is
+    ∙ load_trap-none s.layout a from to in
     let does : effect (Load Lw rd rs1 imm) s (next_answer m) ≡ (computes rd (ram_word s a) s, Ran) =
     ap (λ b. if in_ram s.layout b 4 then (computes rd (ram_word s b) s, Ran) else device_read rd b s (next_answer m)) is
     ∙ ap (λ t. if t then (computes rd (ram_word s a) s, Ran) else device_read rd a s (next_answer m)) inside in
@@ -190,7 +208,8 @@ window_below a h = grind (arith, nat_tests)
 before_ram : (l : Layout) (a : ℕ) → a < 0x10025000 → in_ram l a 4 ≡ false
 before_ram l a h = let above = (regions l).above in grind arith
 
-device_word_parts : (l : Layout) (a : ℕ) → is_device_word a ≡ true → (a % 4 ≡ 0) × (in_device_window a ≡ true) × (in_ram l a 4 ≡ false)
+device_word_parts : (l : Layout) (a : ℕ) → is_device_word a ≡ true
+    → (a % 4 ≡ 0) × (in_device_window a ≡ true) × (in_ram l a 4 ≡ false)
 device_word_parts l a h =
     let parts = and_parts (a % 4 == 0) (in_device_window a) h in
     (eqb-true (a % 4) 0 parts.0, parts.1, before_ram l a (window_below a parts.1))
@@ -202,9 +221,11 @@ above_devices low a h b from to in_stack =
 
 -- a word is written to a device
 pub step_writes_word : (code : List ℕ) (low : ℕ) (m : Moment) (j w rs1 rs2 a : ℕ) (imm : ℤ)
-    → HasCode code m.machine → slice_get code j ≡ Some w → w < 2 ^ 32 → row_of w ≡ Some (Store Sw rs1 rs2 imm) → m.machine.pc ≡ code_base m.machine.layout + 4 * j
+    → HasCode code m.machine → slice_get code j ≡ Some w → w < 2 ^ 32 → row_of w ≡ Some (Store Sw rs1 rs2 imm)
+    → m.machine.pc ≡ code_base m.machine.layout + 4 * j
     → address m.machine rs1 imm ≡ a → is_device_word a ≡ true
-    → StepsTo low m (record m { machine = moved_on m.machine; trace = m.trace ++ event.Write a (register m.machine rs2) ∷ [] })
+    → StepsTo low m
+    (record m { machine = moved_on m.machine; trace = m.trace ++ event.Write a (register m.machine rs2) ∷ [] })
 step_writes_word code low m j w rs1 rs2 a imm has at small row pc is device =
     let s = m.machine in
     let parts = device_word_parts s.layout a device in
@@ -213,9 +234,11 @@ step_writes_word code low m j w rs1 rs2 a imm has at small row pc is device =
     let window = parts.1 in let outside = parts.2 in
     rw (outside, window, even) refl) in
     let does : effect (Store Sw rs1 rs2 imm) s (next_answer m) ≡ (moved_on s, Wrote a (register s rs2)) =
-    ap (λ b. if in_ram s.layout b 4 then (stored b (register s rs2) s, Ran) else (moved_on s, Wrote b (register s rs2))) is
+    ap (λ b. if in_ram s.layout b 4 then (stored b (register s rs2) s, Ran) else (moved_on s, Wrote b (register s rs2)))
+    is
     ∙ ap (λ t. if t then (stored a (register s rs2) s, Ran) else (moved_on s, Wrote a (register s rs2))) (parts.2) in
-    steps_by code low m _ j w (Store Sw rs1 rs2 imm) (moved_on s) (Wrote a (register s rs2)) has at small row pc fine does refl refl
+    steps_by code low m _ j w (Store Sw rs1 rs2 imm) (moved_on s) (Wrote a (register s rs2)) has at small row pc fine
+    does refl refl
     (subst (λ b. IsAbove low (b, 4)) (sym is) (above_devices low a device))
 
 -- ---- code at a place
@@ -240,15 +263,20 @@ pub HasAt-whole : (front ws : List ℕ) → HasAt (front ++ ws) (length front) w
 HasAt-whole front [] = tt
 HasAt-whole front (w ∷ ws) =
     let whole : (front ++ w ∷ []) ++ ws ≡ front ++ w ∷ ws = append_assoc front (w ∷ []) ws in
-    let len : length (front ++ w ∷ []) ≡ length front + 1 = length-append front (w ∷ []) in
-    (slice_get-seam front w ws, subst (λ i. HasAt (front ++ w ∷ ws) i ws) len (subst (λ c. HasAt c (length (front ++ w ∷ [])) ws) whole (HasAt-whole (front ++ w ∷ []) ws)))
+    let len : length (front ++ w ∷ []) ≡ length front + 1 = length-append front (w ∷ []) in (
+      slice_get-seam front w ws,
+      subst (λ i. HasAt (front ++ w ∷ ws) i ws) len (subst
+          (λ c. HasAt c (length (front ++ w ∷ [])) ws) whole (HasAt-whole (front ++ w ∷ []) ws)),
+    )
   where
     slice_get-seam : (front : List ℕ) (w : ℕ) (ws : List ℕ) → slice_get (front ++ w ∷ ws) (length front) ≡ Some w
     slice_get-seam [] w ws = refl
     slice_get-seam (x ∷ front) w ws = slice_get-seam front w ws
 
 -- code that RAM keeps is the machine's code still
-pub HasCode-same : (code : List ℕ) (s s' : MachineState) → HasCode code s → s'.layout ≡ s.layout → s'.code_words ≡ s.code_words → ((p : ℕ) → p < 4 * length code → slice_index s'.ram (code_place s.layout + p) ≡ slice_index s.ram (code_place s.layout + p)) → HasCode code s'
+pub HasCode-same : (code : List ℕ) (s s' : MachineState) → HasCode code s → s'.layout ≡ s.layout
+    → s'.code_words ≡ s.code_words → ((p : ℕ) → p < 4 * length code
+    → slice_index s'.ram (code_place s.layout + p) ≡ slice_index s.ram (code_place s.layout + p)) → HasCode code s'
 HasCode-same code s s' has where_it_stands count same = record {
   count = count ∙ has.count;
   bytes = λ i h. ap (λ l. slice_index s'.ram (code_place l + i)) where_it_stands ∙ same i h ∙ has.bytes i h;
@@ -256,4 +284,6 @@ HasCode-same code s s' has where_it_stands count same = record {
 
 pub HasCode-computes : (code : List ℕ) (s : MachineState) (rd v : ℕ) → HasCode code s → HasCode code (computes rd v s)
 HasCode-computes code s rd v has =
-    HasCode-same code s (computes rd v s) has (layout-with_register rd v (moved_on s)) (code_words-with_register rd v (moved_on s)) (λ p h. ap (λ ram. slice_index ram (code_place s.layout + p)) (ram-with_register rd v (moved_on s)))
+    HasCode-same code
+    s (computes rd v s) has (layout-with_register rd v (moved_on s)) (code_words-with_register rd v (moved_on s))
+    (λ p h. ap (λ ram. slice_index ram (code_place s.layout + p)) (ram-with_register rd v (moved_on s)))

@@ -1,13 +1,20 @@
 -- What instructions compute, by numbers (RISC-V unprivileged manual, chapters 2.4 to 2.6 and the M
 -- extension). An immediate that stands for a word is that word modulo 2 ^ 32.
-use Rattle.std.specs.Prelude.{ℕ, ◌+◌, ◌-◌, ◌*◌, ◌/◌, ◌%◌, ◌^◌, Bool, not, nat_lt, ◌==◌, if◌then◌else◌, ℤ, pos, ◌*ℤ◌, int_lt, int_div, int_rem, bit_and, bit_or, bit_xor}
+use Rattle.std.specs.Prelude.{ℕ, ◌+◌, ◌-◌, ◌*◌, ◌/◌, ◌%◌, ◌^◌, Bool, not}
+use Rattle.std.specs.Prelude.{nat_lt, ◌==◌, if◌then◌else◌, ℤ, pos, ◌*ℤ◌, int_lt}
+use Rattle.std.specs.Prelude.{int_div, int_rem, bit_and, bit_or, bit_xor}
 use Rattle.br_words.specs.Words.{signed, wrapped, floor_div, flag, shift_amount}
 use Rattle.br_rv32im.specs.declared.instruction.BranchOp.{BranchOp}
-use Rattle.br_rv32im.specs.declared.instruction.BranchOp.TheVariants.{Beq, Bne, Blt, Bge, Bltu, Bgeu}
+use Rattle.br_rv32im.specs.declared.instruction.BranchOp.TheVariants.{Beq, Bne, Blt}
+use Rattle.br_rv32im.specs.declared.instruction.BranchOp.TheVariants.{Bge, Bltu, Bgeu}
 use Rattle.br_rv32im.specs.declared.instruction.ImmOp.{ImmOp}
-use Rattle.br_rv32im.specs.declared.instruction.ImmOp.TheVariants.{Addi, Slti, Sltiu, Xori, Ori, Andi}
+use Rattle.br_rv32im.specs.declared.instruction.ImmOp.TheVariants.{Addi, Slti, Sltiu}
+use Rattle.br_rv32im.specs.declared.instruction.ImmOp.TheVariants.{Xori, Ori, Andi}
 use Rattle.br_rv32im.specs.declared.instruction.RegOp.{RegOp}
-use Rattle.br_rv32im.specs.declared.instruction.RegOp.TheVariants.{Add, Sub, Sll, Slt, Sltu, Xor, Srl, Sra, Or, And, Mul, Mulh, Mulhsu, Mulhu, Div, Divu, Rem, Remu}
+use Rattle.br_rv32im.specs.declared.instruction.RegOp.TheVariants.{Add, Sub, Sll, Slt, Sltu}
+use Rattle.br_rv32im.specs.declared.instruction.RegOp.TheVariants.{Xor, Srl, Sra, Or, And}
+use Rattle.br_rv32im.specs.declared.instruction.RegOp.TheVariants.{Mul, Mulh, Mulhsu, Mulhu}
+use Rattle.br_rv32im.specs.declared.instruction.RegOp.TheVariants.{Div, Divu, Rem, Remu}
 use Rattle.br_rv32im.specs.declared.instruction.ShiftOp.{ShiftOp}
 use Rattle.br_rv32im.specs.declared.instruction.ShiftOp.TheVariants.{Slli, Srli, Srai}
 

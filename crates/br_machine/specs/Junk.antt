@@ -5,4 +5,7 @@ use Rattle.br_machine.specs.Start.{Leftover, code_bytes}
 
 -- each register is the word, and each byte is the word's at its address modulo 4, the lowest first
 unfoldable pub junk_of : ℕ → Leftover
-junk_of word = record { registers = replicate 32 word; bytes = code_bytes (replicate ((stack_end - data_base) / 4) word) }
+junk_of word = record {
+  registers = replicate 32 word;
+  bytes = code_bytes (replicate ((stack_end - data_base) / 4) word);
+}

@@ -1,6 +1,9 @@
--- How RAM is kept: the code's words, and the pages that are made. What is not made is told by the code
--- and by one word.
-use Rattle.std.specs.Prelude.{◌≡◌, ℕ, zero, suc, ◌+◌, ◌-◌, ◌*◌, ◌/◌, ◌%◌, ◌<◌, ◌≤◌, Bool, true, ◌&&◌, nat_le, nat_lt, List, [], ◌∷◌, length, slice_index, slice_index_or, slice_set, if◌then◌else◌, Option, Some, None, unwrap_or}
+-- How RAM is kept: the code's words, and the pages that are made. What is not
+-- made is told by the code and by one word.
+use Rattle.std.specs.Prelude.{◌≡◌, ℕ, zero, suc, ◌+◌, ◌-◌, ◌*◌, ◌/◌, ◌%◌, ◌<◌}
+use Rattle.std.specs.Prelude.{◌≤◌, Bool, true, ◌&&◌, nat_le, nat_lt, List, []}
+use Rattle.std.specs.Prelude.{◌∷◌, length, slice_index, slice_index_or, slice_set}
+use Rattle.std.specs.Prelude.{if◌then◌else◌, Option, Some, None, unwrap_or}
 use Rattle.std.specs.List.{AllByRecursion}
 use Rattle.std.specs.FinMap as finite
 use Rattle.br_bytes.specs.Number.{low_bytes}
@@ -24,12 +27,13 @@ pub record IsKept (k : Kept) : Type 0 where
   pub pages : length k.made ≡ page_count k.layout
   pub size : length k.bytes ≡ ram_size k.layout
   pub bytes : AllByRecursion (λ b. b < 256) k.bytes
-  pub code : (i : ℕ) → i < 4 * length k.code → slice_index k.bytes (code_place k.layout + i) ≡ slice_index (code_bytes k.code) i
+  pub code : (i : ℕ) → i < 4 * length k.code
+      → slice_index k.bytes (code_place k.layout + i) ≡ slice_index (code_bytes k.code) i
 
 -- ---- the bytes of RAM, by pages
 
--- The byte at a place of RAM where no memory is handed in: in the code region that of the code, or 0
--- after it, and elsewhere that of the word.
+-- The byte at a place of RAM where no memory is handed in: in the code region that of the code, or
+-- 0 after it, and elsewhere that of the word.
 abbrev pub first_byte : Layout → List ℕ → ℕ → ℕ → ℕ
 first_byte l code junk place =
     let a = ram_base l + place
@@ -45,7 +49,8 @@ in_page None i first = first
 -- the byte at a place
 abbrev pub byte_at : Layout → List ℕ → ℕ → List (Option (List ℕ)) → ℕ → ℕ
 byte_at l code junk pages place =
-    in_page (slice_index_or pages (place / page_size) None) (place % page_size) (first_byte l code junk place)
+    in_page (slice_index_or pages (place / page_size) None) (place % page_size)
+    (first_byte l code junk place)
 
 -- the values of a function at n numbers from `a` on
 abbrev pub values : (ℕ → ℕ) → ℕ → ℕ → List ℕ
@@ -64,4 +69,5 @@ with_made made place (suc n) = with_made (slice_set made (place / page_size) tru
 
 -- the byte at a place, with the memory over it
 abbrev pub start_byte : Layout → List ℕ → Memory → ℕ → ℕ → ℕ
-start_byte l code m junk place = unwrap_or (finite.get m (ram_base l + place)) (first_byte l code junk place)
+start_byte l code m junk place =
+    unwrap_or (finite.get m (ram_base l + place)) (first_byte l code junk place)

@@ -1,11 +1,14 @@
--- The pages of RAM, of 4,096 bytes each, and which of them are made. Page 0 begins at RAM's low end.
-use Rattle.std.specs.Prelude.{◌≡◌, ℕ, ◌+◌, ◌*◌, ◌/◌, ◌<◌, ◌≤◌, Bool, false, ◌&&◌, is_none, IsSome, List, length, slice_index_or, Option, Some, None}
+-- The pages of RAM, of 4,096 bytes each, and which of them are
+-- made. Page 0 begins at RAM's low end.
+use Rattle.std.specs.Prelude.{◌≡◌, ℕ, ◌+◌, ◌*◌, ◌/◌, ◌<◌, ◌≤◌, Bool, false, ◌&&◌, is_none}
+use Rattle.std.specs.Prelude.{IsSome, List, length, slice_index_or, Option, Some, None}
 use Rattle.std.specs.FinMap as map
 use Rattle.br_bytes.specs.Memory.{Memory}
 use Rattle.br_words.specs.declared.layout.Layout.{Layout}
 use Rattle.br_words.specs.Layout.{ram_base}
 use Rattle.br_rv32im.specs.declared.instruction.Ins.{Ins}
-use Rattle.br_rv32im.specs.declared.instruction.Ins.TheVariants.{Upper, Jal, Jalr, Branch, Load, Store, Imm, Shift, Reg, Ecall}
+use Rattle.br_rv32im.specs.declared.instruction.Ins.TheVariants.{Upper, Jal, Jalr, Branch, Load}
+use Rattle.br_rv32im.specs.declared.instruction.Ins.TheVariants.{Store, Imm, Shift, Reg, Ecall}
 use Rattle.br_rv32im.specs.Row.{row_of}
 use Rattle.br_machine.specs.declared.stepped.Trap.{Trap}
 use Rattle.br_machine.specs.State.{MachineState, IsMachine, ram_size}
@@ -45,7 +48,8 @@ HasAddressIn m l page =
 
 -- an instruction stores a byte of a page
 abbrev pub stores_in : Ins → MachineState → ℕ → Bool
-stores_in (Store op rs1 rs2 imm) s page = meet (address s rs1 imm) (store_size op) (page_base s.layout page) page_size
+stores_in (Store op rs1 rs2 imm) s page =
+    meet (address s rs1 imm) (store_size op) (page_base s.layout page) page_size
 stores_in (Upper op rd field) s page = false
 stores_in (Jal rd imm) s page = false
 stores_in (Jalr rd rs1 imm) s page = false

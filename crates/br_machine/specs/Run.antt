@@ -4,7 +4,8 @@ use Rattle.br_bytes.specs.declared.run.Event.{Event}
 use Rattle.br_machine.specs.declared.running.End.{End}
 use Rattle.br_machine.specs.declared.running.End.TheVariants as end
 use Rattle.br_machine.specs.declared.stepped.Stepped.{Stepped}
-use Rattle.br_machine.specs.declared.stepped.Stepped.TheVariants.{Ran, Read, Wrote, Waiting, Halted, Trapped}
+use Rattle.br_machine.specs.declared.stepped.Stepped.TheVariants.{Ran, Read, Wrote}
+use Rattle.br_machine.specs.declared.stepped.Stepped.TheVariants.{Waiting, Halted, Trapped}
 use Rattle.br_machine.specs.State.{MachineState}
 use Rattle.br_machine.specs.Steps.{Moment, moment_after, next_step, after_steps}
 

@@ -1,16 +1,18 @@
 -- The machine when a call begins.
-use Rattle.std.specs.Prelude.{◌≡◌, ℕ, ◌+◌, ◌-◌, ◌*◌, ◌^◌, ◌<◌, ◌≤◌, List, [], ◌∷◌, ◌++◌, length, slice_set, replicate, IfSome, unwrap_or}
-use Rattle.std.specs.List.{AllByRecursion, flat_map}
+use Rattle.std.specs.Prelude.{◌≡◌, ℕ, ◌+◌, ◌-◌, ◌*◌, ◌^◌, ◌<◌, List, [], ◌∷◌}
+use Rattle.std.specs.Prelude.{◌++◌, length, slice_set, replicate, unwrap_or}
+use Rattle.std.specs.List.{AllByRecursion}
 use Rattle.std.specs.FinMap as map
-use Rattle.br_bytes.specs.Number.{low_bytes}
 use Rattle.br_bytes.specs.Memory.{Memory}
+pub use Rattle.br_bytes.specs.Memory.{IsInData}
+pub use Rattle.br_bytes.specs.Number.{word_bytes as code_bytes}
 use Rattle.br_words.specs.declared.layout.Layout.{Layout}
 use Rattle.br_words.specs.declared.layout.Layout.TheVariants.{One, Two}
-use Rattle.br_words.specs.Layout.{code_base, code_end, data_base, stack_base, stack_end}
+use Rattle.br_words.specs.Layout.{code_base, code_end, data_base, stack_end}
 use Rattle.br_machine.specs.State.{MachineState}
 
--- what the machine holds by chance before a call: its registers, and the bytes of the data and stack
--- regions
+-- what the machine holds by chance before a call: its registers, and
+-- the bytes of the data and stack regions
 pub record Leftover : Type 0 where
   pub registers : List ℕ
   pub bytes : List ℕ
@@ -20,10 +22,6 @@ pub record IsLeftover (j : Leftover) : Type 0 where
   pub words : AllByRecursion (λ v. v < 2 ^ 32) j.registers
   pub bytes : length j.bytes ≡ stack_end - data_base
   pub small : AllByRecursion (λ b. b < 256) j.bytes
-
--- each address of a memory is in the data region, and each byte is one
-abbrev pub IsInData : Memory → Type 0
-IsInData m = (a : ℕ) → IfSome (map.get m a) (λ b. (data_base ≤ a) × (a < stack_base) × (b < 256))
 
 -- registers with words in a register and those after it, in turn
 abbrev pub with_words : ℕ → List ℕ → List ℕ → List ℕ
@@ -35,20 +33,18 @@ abbrev pub overlaid : Memory → ℕ → List ℕ → List ℕ
 overlaid m a [] = []
 overlaid m a (b ∷ bs) = unwrap_or (map.get m a) b ∷ overlaid m (a + 1) bs
 
--- the bytes of code, each word's lowest first
-abbrev pub code_bytes : List ℕ → List ℕ
-code_bytes code = flat_map (low_bytes 4) code
-
 -- the code region: the code, and zeros after it
 unfoldable pub filled : Layout → List ℕ → List ℕ
 filled l code = code_bytes code ++ replicate (code_end l - code_base l - 4 * length code) 0
 
--- the code region, and the leftover bytes with the memory over them, in the order of their addresses
+-- the code region, and the leftover bytes with the memory over
+-- them, in the order of their addresses
 unfoldable pub start_ram : Layout → List ℕ → Memory → Leftover → List ℕ
 start_ram One code m j = filled One code ++ overlaid m data_base j.bytes
 start_ram Two code m j = overlaid m data_base j.bytes ++ filled Two code
 
--- the machine as a call begins at an offset into the code: the arguments stand in x10, x11 and so on
+-- the machine as a call begins at an offset into the code: the
+-- arguments stand in x10, x11 and so on
 abbrev pub start : Layout → List ℕ → ℕ → List ℕ → Memory → Leftover → MachineState
 start l code offset args m j = record {
   layout = l;

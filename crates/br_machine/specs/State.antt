@@ -1,5 +1,6 @@
 -- The machine at a moment.
-use Rattle.std.specs.Prelude.{◌≡◌, ℕ, zero, suc, ◌+◌, ◌-◌, ◌%◌, ◌^◌, ◌<◌, ◌≤◌, List, [], ◌∷◌, length, slice_index, slice_set}
+use Rattle.std.specs.Prelude.{◌≡◌, ℕ, zero, suc, ◌+◌, ◌-◌, ◌%◌, ◌^◌, ◌<◌, ◌≤◌}
+use Rattle.std.specs.Prelude.{List, [], ◌∷◌, length, slice_index, slice_set}
 use Rattle.std.specs.List.{AllByRecursion}
 use Rattle.br_words.specs.declared.layout.Layout.{Layout}
 use Rattle.br_words.specs.Layout.{code_base, ram_base, ram_end, most_words}
@@ -24,8 +25,8 @@ ram_size l = ram_end l - ram_base l
 abbrev pub code_place : Layout → ℕ
 code_place l = code_base l - ram_base l
 
--- What holds of every machine: sizes, that registers and pc are words and RAM is of bytes, and that pc
--- is a multiple of 4.
+-- What holds of every machine: sizes, that registers and pc are words and RAM is of
+-- bytes, and that pc is a multiple of 4.
 pub record IsMachine (s : MachineState) : Type 0 where
   pub registers : length s.registers ≡ 32
   pub words : AllByRecursion (λ v. v < 2 ^ 32) s.registers

@@ -1,5 +1,6 @@
 -- One step of the machine: it fetches, decodes, tests the rules in their order, and has its effect.
-use Rattle.std.specs.Prelude.{ℕ, ◌+◌, ◌-◌, ◌*◌, Bool, ◌&&◌, nat_le, nat_lt, if◌then◌else◌, Option, Some, None}
+use Rattle.std.specs.Prelude.{ℕ, ◌+◌, ◌-◌, ◌*◌, Bool, ◌&&◌, nat_le}
+use Rattle.std.specs.Prelude.{nat_lt, if◌then◌else◌, Option, Some, None}
 use Rattle.br_bytes.specs.Number.{number_of}
 use Rattle.br_rv32im.specs.declared.instruction.Ins.{Ins}
 use Rattle.br_rv32im.specs.Row.{row_of}
@@ -14,7 +15,8 @@ use Rattle.br_machine.specs.Effects.{effect}
 
 -- pc is the address of a byte of the code
 abbrev pub is_in_code : MachineState → Bool
-is_in_code s = nat_le (code_base s.layout) s.pc && nat_lt s.pc (code_base s.layout + 4 * s.code_words)
+is_in_code s =
+    nat_le (code_base s.layout) s.pc && nat_lt s.pc (code_base s.layout + 4 * s.code_words)
 
 -- the word at pc
 abbrev pub fetched : MachineState → ℕ

@@ -1,12 +1,15 @@
 -- Many steps, with the answers of devices taken in turn and the events in order.
-use Rattle.std.specs.Prelude.{◌≡◌, ℕ, zero, suc, ◌+◌, ◌-◌, ◌<◌, ◌≤◌, List, [], ◌∷◌, ◌++◌, Option, Some, None, take, drop, slice_get}
+use Rattle.std.specs.Prelude.{◌≡◌, ℕ, zero, suc, ◌+◌, ◌-◌, ◌<◌, ◌≤◌, List, [], ◌∷◌}
+use Rattle.std.specs.Prelude.{◌++◌, Option, Some, None, take, drop, slice_get}
 use Rattle.br_bytes.specs.declared.run.Event.{Event}
 use Rattle.br_bytes.specs.declared.run.Event.TheVariants as event
 use Rattle.br_rv32im.specs.declared.instruction.Ins.{Ins}
-use Rattle.br_rv32im.specs.declared.instruction.Ins.TheVariants.{Upper, Jal, Jalr, Branch, Load, Store, Imm, Shift, Reg, Ecall}
+use Rattle.br_rv32im.specs.declared.instruction.Ins.TheVariants.{Upper, Jal, Jalr, Branch, Load}
+use Rattle.br_rv32im.specs.declared.instruction.Ins.TheVariants.{Store, Imm, Shift, Reg, Ecall}
 use Rattle.br_rv32im.specs.Row.{row_of}
 use Rattle.br_machine.specs.declared.stepped.Stepped.{Stepped}
-use Rattle.br_machine.specs.declared.stepped.Stepped.TheVariants.{Ran, Read, Wrote, Waiting, Halted, Trapped}
+use Rattle.br_machine.specs.declared.stepped.Stepped.TheVariants.{Ran, Read, Wrote}
+use Rattle.br_machine.specs.declared.stepped.Stepped.TheVariants.{Waiting, Halted, Trapped}
 use Rattle.br_words.specs.Layout.{code_base, code_end, stack_base}
 use Rattle.br_machine.specs.State.{MachineState, code_place}
 use Rattle.br_machine.specs.Traps.{load_size, store_size, address}
@@ -21,8 +24,10 @@ pub record Moment : Type 0 where
 -- the moment after a step that ended so, or None where the step did not go on
 abbrev pub moment_after : Moment → MachineState × Stepped → Option Moment
 moment_after m (s, Ran) = Some (record m { machine = s })
-moment_after m (s, Read a v) = Some (record { machine = s; answers = drop 1 m.answers; trace = m.trace ++ event.Read a v ∷ [] })
-moment_after m (s, Wrote a v) = Some (record m { machine = s; trace = m.trace ++ event.Write a v ∷ [] })
+moment_after m (s, Read a v) = Some
+    (record { machine = s; answers = drop 1 m.answers; trace = m.trace ++ event.Read a v ∷ [] })
+moment_after m (s, Wrote a v) =
+    Some (record m { machine = s; trace = m.trace ++ event.Write a v ∷ [] })
 moment_after m (s, Waiting a) = None
 moment_after m (s, Halted) = None
 moment_after m (s, Trapped trap pc) = None

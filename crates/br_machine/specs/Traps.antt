@@ -1,17 +1,20 @@
--- Which rules an instruction would break at a moment. A word that is no instruction and a pc outside
--- the code are tested before.
-use Rattle.std.specs.Prelude.{◌≡◌, ◌⊎◌, ℕ, ◌+◌, ◌*◌, ◌/◌, ◌%◌, Bool, ◌&&◌, nat_lt, nat_le, min, max, ◌==◌, if◌then◌else◌, ℤ, Option, Some, None}
+-- Which rules an instruction would break at a moment. A word that is no instruction and a
+-- pc outside the code are tested before.
+use Rattle.std.specs.Prelude.{◌≡◌, ◌⊎◌, ℕ, ◌+◌, ◌*◌, ◌/◌, ◌%◌, Bool, ◌&&◌, nat_lt, nat_le}
+use Rattle.std.specs.Prelude.{min, max, ◌==◌, if◌then◌else◌, ℤ, Option, Some, None}
 use Rattle.br_words.specs.Device.{in_device_window}
 use Rattle.br_words.specs.declared.layout.Layout.{Layout}
 use Rattle.br_words.specs.Layout.{code_base, ram_base, ram_end}
 use Rattle.br_rv32im.specs.declared.instruction.Ins.{Ins}
-use Rattle.br_rv32im.specs.declared.instruction.Ins.TheVariants.{Upper, Jal, Jalr, Branch, Load, Store, Imm, Shift, Reg, Ecall}
+use Rattle.br_rv32im.specs.declared.instruction.Ins.TheVariants.{Upper, Jal, Jalr, Branch, Load}
+use Rattle.br_rv32im.specs.declared.instruction.Ins.TheVariants.{Store, Imm, Shift, Reg, Ecall}
 use Rattle.br_rv32im.specs.declared.instruction.LoadOp.{LoadOp}
 use Rattle.br_rv32im.specs.declared.instruction.LoadOp.TheVariants.{Lb, Lh, Lw, Lbu, Lhu}
 use Rattle.br_rv32im.specs.declared.instruction.StoreOp.{StoreOp}
 use Rattle.br_rv32im.specs.declared.instruction.StoreOp.TheVariants.{Sb, Sh, Sw}
 use Rattle.br_machine.specs.declared.stepped.Trap.{Trap}
-use Rattle.br_machine.specs.declared.stepped.Trap.TheVariants.{FetchMisaligned, CodeWrite, DeviceAccess, AccessOutside}
+use Rattle.br_machine.specs.declared.stepped.Trap.TheVariants.{FetchMisaligned, CodeWrite}
+use Rattle.br_machine.specs.declared.stepped.Trap.TheVariants.{DeviceAccess, AccessOutside}
 use Rattle.br_machine.specs.State.{MachineState, register}
 use Rattle.br_machine.specs.Arithmetic.{plus, is_taken}
 
@@ -77,7 +80,8 @@ trap_of (Jalr rd rs1 imm) s = jump_trap (jalr_target s rs1 imm)
 trap_of (Branch op rs1 rs2 imm) s =
     if is_taken op (register s rs1) (register s rs2) then jump_trap (plus s.pc imm) else None
 trap_of (Load op rd rs1 imm) s = load_trap s.layout (address s rs1 imm) (load_size op)
-trap_of (Store op rs1 rs2 imm) s = store_trap s.layout s.code_words (address s rs1 imm) (store_size op)
+trap_of (Store op rs1 rs2 imm) s =
+    store_trap s.layout s.code_words (address s rs1 imm) (store_size op)
 trap_of (Upper op rd field) s = None
 trap_of (Imm op rd rs1 imm) s = None
 trap_of (Shift op rd rs1 amount) s = None

@@ -1,12 +1,14 @@
 // What the kinds of instructions do, unless they break a rule.
 
-ghost use Rattle.std.specs.Prelude.{◌≡◌, ℕ, ◌%◌, ◌^◌, ◌<◌, ◌≤◌, ◌+◌, ◌-◌, ◌||◌, ◌&&◌, IfSome, None, false, is_none, is_some, if◌then◌else◌};
+ghost use Rattle.std.specs.Prelude.{◌≡◌, ℕ, ◌%◌, ◌^◌, ◌<◌, ◌≤◌, ◌+◌, ◌-◌, ◌||◌, ◌&&◌};
+ghost use Rattle.std.specs.Prelude.{IfSome, None, false, is_none, is_some, if◌then◌else◌};
 ghost use Rattle.br_bytes.specs.Number.{low_bytes};
 ghost use Rattle.br_words.specs.Layout.{ram_base};
 ghost use Rattle.br_machine.specs.State.{ram_size, with_bytes_from};
 ghost use Rattle.br_machine.specs.Arithmetic.{plus};
 ghost use Rattle.br_machine.specs.Pages.{is_made, page_base, page_count, page_size};
-ghost use Rattle.br_machine.specs.Traps.{IsMoved, address, device_trap, in_ram, jalr_target, jump_trap, meet, store_trap};
+ghost use Rattle.br_machine.specs.Traps.{IsMoved, address, device_trap, in_ram};
+ghost use Rattle.br_machine.specs.Traps.{jalr_target, jump_trap, meet, store_trap};
 ghost use Rattle.br_machine.specs.Effects.{at_pc, next_pc, computes, jumps, device_read, moved_on};
 ghost use Rattle.br_machine.specs.Step.{unless};
 
@@ -61,10 +63,12 @@ impl Machine {
     pub(crate) fn jump(&mut self, rd: u32, target: u32) -> Stepped
         requires { rd < 32 }
         ensures machine { self.new.state
-            ≡ (unless (jump_trap target) (jumps rd target self.old.state, Stepped.Ran) self.old.state).0 }
+            ≡ (unless (jump_trap target) (jumps rd target self.old.state, Stepped.Ran)
+            self.old.state).0 }
         ensures made { self.new.made ≡ self.old.made }
         ensures end { result
-            ≡ (unless (jump_trap target) (jumps rd target self.old.state, Stepped.Ran) self.old.state).1 }
+            ≡ (unless (jump_trap target) (jumps rd target self.old.state, Stepped.Ran)
+            self.old.state).1 }
     {
         if let Some(trap) = jump_trap(target) {
             return self.trapped(trap);
@@ -78,13 +82,19 @@ impl Machine {
     /// The machine goes on at a distance where a test holds, and else after this instruction.
     pub(crate) fn branch(&mut self, taken: bool, imm: i32) -> Stepped
         ensures machine { self.new.state
-            ≡ (unless (if taken then jump_trap (plus self.old.state.pc imm) else None)
-            (at_pc (if taken then plus self.old.state.pc imm else next_pc self.old.state) self.old.state, Stepped.Ran)
+            ≡ (unless (if taken then jump_trap (plus self.old.state.pc imm) else None) (
+              at_pc (if taken then plus self.old.state.pc imm
+                  else next_pc self.old.state) self.old.state,
+              Stepped.Ran,
+            )
             self.old.state).0 }
         ensures made { self.new.made ≡ self.old.made }
         ensures end { result
-            ≡ (unless (if taken then jump_trap (plus self.old.state.pc imm) else None)
-            (at_pc (if taken then plus self.old.state.pc imm else next_pc self.old.state) self.old.state, Stepped.Ran)
+            ≡ (unless (if taken then jump_trap (plus self.old.state.pc imm) else None) (
+              at_pc (if taken then plus self.old.state.pc imm
+                  else next_pc self.old.state) self.old.state,
+              Stepped.Ran,
+            )
             self.old.state).1 }
     {
         if !taken {
@@ -99,8 +109,8 @@ impl Machine {
         Stepped::Ran
     }
 
-    /// The place in RAM of the first of `n` bytes from `a` on, counted from RAM's low end, where all of
-    /// them are in RAM.
+    /// The place in RAM of the first of `n` bytes from `a` on, counted from RAM's
+    /// low end, where all of them are in RAM.
     pub(crate) fn place_in_ram(&self, a: u32, n: u32) -> Option<u32>
         requires { n ≤ 4 }
         ensures ram { is_some result ≡ in_ram self.now.state.layout a n }
@@ -114,8 +124,8 @@ impl Machine {
         }
     }
 
-    /// A register takes what a device answers for `n` bytes from `a` on, which are outside RAM, where
-    /// an answer is there.
+    /// A register takes what a device answers for `n` bytes from `a` on, which are
+    /// outside RAM, where an answer is there.
     pub(crate) fn read_device(
         &mut self,
         rd: u32,
@@ -125,10 +135,12 @@ impl Machine {
     ) -> Stepped
         requires { rd < 32 }
         ensures machine { self.new.state
-            ≡ (unless (device_trap a n) (device_read rd a self.old.state next_answer) self.old.state).0 }
+            ≡ (unless (device_trap a n) (device_read rd a self.old.state next_answer)
+            self.old.state).0 }
         ensures made { self.new.made ≡ self.old.made }
         ensures end { result
-            ≡ (unless (device_trap a n) (device_read rd a self.old.state next_answer) self.old.state).1 }
+            ≡ (unless (device_trap a n) (device_read rd a self.old.state next_answer)
+            self.old.state).1 }
     {
         if let Some(trap) = device_trap(a, n) {
             return self.trapped(trap);
@@ -150,7 +162,8 @@ impl Machine {
             (if in_ram self.old.state.layout a n
             then (
               record (moved_on self.old.state) {
-                ram = with_bytes_from self.old.state.ram (a - ram_base self.old.state.layout) (low_bytes n v);
+                ram = with_bytes_from self.old.state.ram (a - ram_base self.old.state.layout)
+                    (low_bytes n v);
               },
               Stepped.Ran,
             )
@@ -165,7 +178,8 @@ impl Machine {
             (if in_ram self.old.state.layout a n
             then (
               record (moved_on self.old.state) {
-                ram = with_bytes_from self.old.state.ram (a - ram_base self.old.state.layout) (low_bytes n v);
+                ram = with_bytes_from self.old.state.ram (a - ram_base self.old.state.layout)
+                    (low_bytes n v);
               },
               Stepped.Ran,
             )

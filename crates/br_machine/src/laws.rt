@@ -1,6 +1,7 @@
 // Laws of the machine's step. Each function does nothing: what it ensures is the law.
 
-ghost use Rattle.std.specs.Prelude.{◌≡◌, ℕ, ◌+◌, ◌-◌, ◌*◌, ◌%◌, ◌<◌, ◌≤◌, List, length, Option, IfSome, slice_index, take, drop};
+ghost use Rattle.std.specs.Prelude.{◌≡◌, ℕ, ◌+◌, ◌-◌, ◌*◌, ◌%◌, ◌<◌, ◌≤◌, List};
+ghost use Rattle.std.specs.Prelude.{length, Option, IfSome, slice_index, take, drop};
 ghost use Rattle.std.specs.List.{AllByRecursion};
 ghost use Rattle.std.specs.FinMap as map;
 ghost use Rattle.br_bytes.specs.Number.{low_bytes};
@@ -57,8 +58,8 @@ pub fn steps_add_up()
         after_steps (second + first) m ≡ after_steps second (after_steps first m) }
 {}
 
-/// The contents that one word tells are contents that a machine may hold, and the byte at an address
-/// is the word's byte there, modulo 4, the lowest first.
+/// The contents that one word tells are contents that a machine may hold, and the byte at an
+/// address is the word's byte there, modulo 4, the lowest first.
 pub fn junk_repeats_a_word()
     ensures leftover { (word : ℕ) → IsWord word → IsLeftover (junk_of word) }
     ensures bytes { (word a : ℕ) → data_base ≤ a → a < stack_end →

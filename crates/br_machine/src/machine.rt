@@ -1,9 +1,11 @@
 // The machine, and what is read and set of it.
 
-ghost use Rattle.std.specs.Prelude.{◌≡◌, ℕ, ◌+◌, ◌-◌, ◌*◌, ◌%◌, ◌^◌, ◌<◌, ◌≤◌, min, max, length, IfSome, IsNone, ◌↔◌, ◌⊎◌};
+ghost use Rattle.std.specs.Prelude.{◌≡◌, ℕ, ◌+◌, ◌-◌, ◌*◌, ◌%◌, ◌^◌, ◌<◌, ◌≤◌};
+ghost use Rattle.std.specs.Prelude.{min, max, length, IfSome, IsNone, ◌↔◌, ◌⊎◌};
 ghost use Rattle.br_words.specs.Layout.{ram_base, ram_end, most_words};
 ghost use Rattle.br_bytes.specs.Number.{number_of, low_bytes};
-ghost use Rattle.br_machine.specs.State.{MachineState, IsMachine, code_place, ram_size, register, with_register, byte_of, bytes_from, with_bytes_from};
+ghost use Rattle.br_machine.specs.State.{MachineState, IsMachine, code_place, ram_size, register};
+ghost use Rattle.br_machine.specs.State.{with_register, byte_of, bytes_from, with_bytes_from};
 ghost use Rattle.br_machine.specs.Traps.{IsMoved};
 ghost use Rattle.br_machine.specs.Effects.{at_pc};
 ghost use Rattle.br_machine.specs.Pages.{IsPaged, is_made, page_count};
@@ -79,9 +81,9 @@ impl Machine {
         Machine { registers, pc, ram }
     }
 
-    /// Each machine has 32 registers that are words, a pc that is one and a multiple of 4, RAM of as
-    /// many bytes as its layout has, no more words of code than the code region holds, and is told
-    /// of each page whether it is made. This does nothing: what it ensures is the law.
+    /// Each machine has 32 registers that are words, a pc that is one and a multiple of 4, RAM of
+    /// as many bytes as its layout has, no more words of code than the code region holds, and is
+    /// told of each page whether it is made. This does nothing: what it ensures is the law.
     pub fn well_formed(&self)
         ensures { IsPaged self.now }
     {
@@ -157,7 +159,7 @@ impl Machine {
         self.ram.code_word(index)
     }
 
-    // x0 keeps no write.
+    /// x0 keeps no write.
     pub(crate) fn set_register(&mut self, r: u32, v: u32)
         requires { r < 32 }
         ensures { self.new ≡ record self.old { state = with_register r v self.old.state } }
@@ -184,12 +186,13 @@ impl Machine {
         self.ram.number_at(place, n)
     }
 
-    /// The `n` low bytes of a number are put from a place on, `n` 1, 2 or 4, where none is the code's,
-    /// and the pages that they are in are made.
+    /// The `n` low bytes of a number are put from a place on, `n` 1, 2 or 4, where none is the
+    /// code's, and the pages that they are in are made.
     pub(crate) fn set_number(&mut self, place: u32, n: u32, v: u32)
         requires size { IsMoved n }
         requires inside { place + n ≤ ram_size self.old.state.layout }
-        requires apart { min (place + n) (code_place self.old.state.layout + 4 * self.old.state.code_words)
+        requires apart { min (place + n)
+            (code_place self.old.state.layout + 4 * self.old.state.code_words)
             ≤ max place (code_place self.old.state.layout) }
         ensures { self.new ≡ record {
           state = record self.old.state {

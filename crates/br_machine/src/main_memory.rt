@@ -1,6 +1,7 @@
 // RAM: the code's words, and its bytes in pages. A place is counted from RAM's low end.
 
-ghost use Rattle.std.specs.Prelude.{◌≡◌, ℕ, ◌+◌, ◌*◌, ◌/◌, ◌%◌, ◌<◌, ◌≤◌, true, false, min, max, length, map, is_some, slice_index, slice_index_or, slice_set};
+ghost use Rattle.std.specs.Prelude.{◌≡◌, ℕ, ◌+◌, ◌*◌, ◌/◌, ◌%◌, ◌<◌, ◌≤◌, true, false, min, max};
+ghost use Rattle.std.specs.Prelude.{length, map, is_some, slice_index, slice_index_or, slice_set};
 ghost use Rattle.br_words.specs.Layout.{most_words};
 ghost use Rattle.br_bytes.specs.Number.{number_of};
 ghost use Rattle.br_machine.specs.State.{bytes_from, code_place, ram_size};
@@ -12,8 +13,8 @@ use br_words::Layout;
 use std::marker::Model;
 
 /// The bytes of RAM, which begins with the code, zeros after it, and the bytes of one word
-/// elsewhere. A page of it is made when a byte of it is stored. Contracts see it as where it stands,
-/// the words of the code, its bytes, and which pages are made.
+/// elsewhere. A page of it is made when a byte of it is stored. Contracts see it as where it
+/// stands, the words of the code, its bytes, and which pages are made.
 #[derive(Drop)]
 pub(crate) struct Ram {
     layout: Layout,
@@ -92,7 +93,8 @@ impl Ram {
     /// A word of the code, counted from 0: the number of its four bytes.
     pub(crate) fn code_word(&self, index: u32) -> u32
         requires { index < length self.now.code }
-        ensures { result ≡ number_of (bytes_from self.now.bytes (code_place self.now.layout + 4 * index) 4) }
+        ensures { result
+            ≡ number_of (bytes_from self.now.bytes (code_place self.now.layout + 4 * index) 4) }
     {
         word_of(self.code.as_slice(), index)
     }

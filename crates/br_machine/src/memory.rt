@@ -72,8 +72,8 @@ impl Ram {
         self.set_half(place + 2, v / 65536);
     }
 
-    /// The `n` low bytes of a number are put from a place on, `n` 1, 2 or 4, where none is the code's,
-    /// and the pages that they are in are made.
+    /// The `n` low bytes of a number are put from a place on, `n` 1, 2 or 4, where none is the
+    /// code's, and the pages that they are in are made.
     pub(crate) fn set_number(&mut self, place: u32, n: u32, v: u32)
         requires size { IsMoved n }
         requires inside { place + n ≤ ram_size self.old.layout }

@@ -1,7 +1,9 @@
 // The pages that are made of RAM, and what stands where none is made. A place is counted from RAM's
 // low end.
 
-ghost use Rattle.std.specs.Prelude.{◌≡◌, ◌≢◌, ◌↔◌, ℕ, ◌+◌, ◌*◌, ◌/◌, ◌%◌, ◌<◌, ◌≤◌, Bool, true, false, IsSome, length, map, is_some, slice_get, slice_index, slice_index_or, slice_set, Some, None, ◌^◌};
+ghost use Rattle.std.specs.Prelude.{◌≡◌, ◌≢◌, ◌↔◌, ℕ, ◌+◌, ◌*◌, ◌/◌, ◌%◌, ◌<◌, ◌≤◌, Bool};
+ghost use Rattle.std.specs.Prelude.{true, false, IsSome, length, map, is_some, slice_get};
+ghost use Rattle.std.specs.Prelude.{slice_index, slice_index_or, slice_set, Some, None, ◌^◌};
 ghost use Rattle.br_bytes.specs.Memory.{Memory};
 ghost use Rattle.br_machine.specs.State.{ram_size};
 ghost use Rattle.br_machine.specs.Start.{code_bytes};
@@ -92,7 +94,8 @@ fn put(pages: &mut Vec<Page>, place: u32, b: u8)
     requires inside { place / page_size < length pages.old.items }
     requires made { slice_index_or (map is_some pages.old.items) (place / page_size) false ≡ true }
     ensures there { (first : ℕ) →
-        in_page (slice_index_or pages.new.items (place / page_size) None) (place % page_size) first ≡ b }
+        in_page (slice_index_or pages.new.items (place / page_size) None) (place % page_size) first
+        ≡ b }
     ensures others { (page i first : ℕ) → page_size * page + i ≢ place → i < page_size →
         in_page (slice_index_or pages.new.items page None) i first
         ≡ in_page (slice_index_or pages.old.items page None) i first }

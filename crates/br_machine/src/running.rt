@@ -35,12 +35,17 @@ fn answer_at(answers: &[u32], taken: usize) -> Option<u32>
 /// trace, which has room for `limit` more.
 pub fn run(m: &mut Machine, answers: &[u32], limit: u32, trace: &mut Trace) -> End
     requires { limit ≤ trace.old.room }
-    ensures machine { m.new.state ≡ (after_steps limit (at_start m.old.state answers.now trace.old.events)).machine }
-    ensures events { trace.new.events ≡ (after_steps limit (at_start m.old.state answers.now trace.old.events)).trace }
-    ensures room { trace.new.room + length trace.new.events ≡ trace.old.room + length trace.old.events }
-    ensures running { (result ≡ End.Running) ↔ AllGoOn limit (at_start m.old.state answers.now trace.old.events) }
+    ensures machine { m.new.state
+        ≡ (after_steps limit (at_start m.old.state answers.now trace.old.events)).machine }
+    ensures events { trace.new.events
+        ≡ (after_steps limit (at_start m.old.state answers.now trace.old.events)).trace }
+    ensures room { trace.new.room + length trace.new.events
+        ≡ trace.old.room + length trace.old.events }
+    ensures running { (result ≡ End.Running)
+        ↔ AllGoOn limit (at_start m.old.state answers.now trace.old.events) }
     ensures ended { result ≢ End.Running →
-        result ≡ end_of (next_step (after_steps limit (at_start m.old.state answers.now trace.old.events))).1 }
+        result ≡ end_of
+        (next_step (after_steps limit (at_start m.old.state answers.now trace.old.events))).1 }
 {
     let mut taken = 0;
     for _ in 0..limit {

@@ -1,6 +1,8 @@
 // The machine as a call begins.
 
-ghost use Rattle.std.specs.Prelude.{◌≡◌, ◌↔◌, ℕ, ◌+◌, ◌-◌, ◌*◌, ◌%◌, ◌<◌, ◌≤◌, Bool, true, false, length, is_some, slice_index, slice_index_or, None, IfOk, IsSome};
+ghost use Rattle.std.specs.Prelude.{◌≡◌, ◌↔◌, ℕ, ◌+◌, ◌-◌, ◌*◌, ◌%◌, ◌<◌, ◌≤◌, Bool};
+ghost use Rattle.std.specs.Prelude.{true, false, length, is_some, slice_index};
+ghost use Rattle.std.specs.Prelude.{slice_index_or, None, IfOk, IsSome};
 ghost use Rattle.std.specs.FinMap as finite;
 ghost use Rattle.br_words.specs.Layout.{code_base, code_end, most_words};
 ghost use Rattle.br_bytes.specs.Memory.{Memory};
@@ -33,8 +35,10 @@ fn start_byte(layout: Layout, code: &[u32], memory: &ByteMap, junk: u32, place: 
 fn has_address(memory: &ByteMap, base: u32) -> bool
     requires data { IsInData memory.now }
     requires inside { base + page_size ≤ 4294967295 }
-    ensures some { result ≡ true → (a : ℕ) × (base ≤ a) × (a < base + page_size) × IsSome (finite.get memory.now a) }
-    ensures none { result ≡ false → (a : ℕ) → base ≤ a → a < base + page_size → finite.get memory.now a ≡ None }
+    ensures some { result ≡ true →
+        (a : ℕ) × (base ≤ a) × (a < base + page_size) × IsSome (finite.get memory.now a) }
+    ensures none { result ≡ false → (a : ℕ) → base ≤ a → a < base + page_size →
+        finite.get memory.now a ≡ None }
 {
     if base + PAGE_SIZE <= DATA_BASE || STACK_BASE <= base {
         return false;
@@ -90,7 +94,8 @@ fn start_pages(
         byte_at layout code.now junk pages.items place
         ≡ start_byte layout code.now memory.now junk place) }
     ensures made { IfOk result (λ pages. (page : ℕ) → page < page_count layout →
-        (is_some (slice_index_or pages.items page None) ≡ true) ↔ HasAddressIn memory.now layout page) }
+        (is_some (slice_index_or pages.items page None) ≡ true)
+        ↔ HasAddressIn memory.now layout page) }
 {
     let count = (layout.ram_end() - layout.ram_base()) / PAGE_SIZE;
     let mut pages = Vec::with_capacity(alloc, count as usize)?;
@@ -112,7 +117,8 @@ fn start_ram(
     requires memory { IsInData memory.now }
     ensures layout { IfOk result (λ r. r.layout ≡ layout) }
     ensures code { IfOk result (λ r. r.code ≡ code.now) }
-    ensures bytes { IfOk result (λ r. r.bytes ≡ start_ram layout code.now memory.now (junk_of junk)) }
+    ensures bytes { IfOk result
+        (λ r. r.bytes ≡ start_ram layout code.now memory.now (junk_of junk)) }
     ensures made { IfOk result (λ r. (page : ℕ) → page < page_count layout →
         (slice_index_or r.made page false ≡ true) ↔ HasAddressIn memory.now layout page) }
 {

@@ -1,73 +1,53 @@
 // One step of the machine.
 
-ghost use Rattle.std.specs.Prelude.{◌≡◌, ℕ, ◌+◌, ◌<◌, ◌≤◌, ◌||◌, true};
+ghost use Rattle.std.specs.Prelude.{◌≡◌, ℕ, ◌*◌, ◌^◌, ◌<◌, ◌||◌, true};
 ghost use Rattle.br_rv32im.specs.Encoding.{Fits};
-ghost use Rattle.br_machine.specs.Traps.{trap_of};
+ghost use Rattle.br_machine.specs.Traps.{IsMoved, load_size, load_trap, store_size, trap_of};
+ghost use Rattle.br_machine.specs.Effects.{load_effect, loaded};
 ghost use Rattle.br_machine.specs.Pages.{is_made, obeyed_in, page_count, step_stores_in};
-ghost use Rattle.br_machine.specs.Step.{is_in_code, fetched, obey, step};
+ghost use Rattle.br_machine.specs.Step.{is_in_code, fetched, unless, obey, step};
 
-use crate::arithmetic::{signed_quotient, signed_remainder, upper_mixed, upper_signed};
+use crate::arithmetic::{imm_value, is_taken, reg_value, shift_value};
 use crate::laws::{steps_keep_the_code, steps_that_end_change_nothing};
 use crate::machine::Machine;
 use crate::stepped::{Stepped, Trap};
-use br_rv32im::{BranchOp, ImmOp, Ins, LoadOp, RegOp, ShiftOp, StoreOp, UpperOp, decode};
+use br_rv32im::{Ins, LoadOp, StoreOp, UpperOp, decode};
 use br_words::sext;
 
-// The instructions, kind by kind: what each computes, on which test it is taken, how many bytes it
-// moves, and what it makes of them. The names before the rows are those of the operands: an upper field
-// as a word, two words, the number of the bytes that are loaded, a word and an amount.
-macro_rules! step_table {
-    ($machine:ident, $i:ident, $next_answer:ident;
-        upper($high:ident: $($upper:ident => $upper_value:expr),*),
-        jal,
-        jalr,
-        branch($a:ident, $b:ident: $($branch:ident => $taken:expr),*),
-        load($number:ident: $($load:ident $load_size:literal => $loaded:expr),*),
-        store($($store:ident $store_size:literal),*),
-        imm($imm:ident, $imm_word:ident: $($imm_op:ident => $imm_value:expr),*),
-        shift($shifted:ident, $amount:ident: $($shift:ident => $shift_value:expr),*),
-        reg($c:ident, $d:ident: $($reg:ident => $reg_value:expr),*),
-        ecall,
-    ) => {
-        match $i {
-            $(Ins::Upper(UpperOp::$upper, rd, field) => {
-                let $high = field * 4096;
-                $machine.compute(rd, $upper_value)
-            })*
-            Ins::Jal(rd, imm) => $machine.jump(rd, $machine.pc().wrapping_add_signed(imm)),
-            Ins::Jalr(rd, rs1, imm) => $machine.jump(rd, $machine.jalr_target(rs1, imm)),
-            $(Ins::Branch(BranchOp::$branch, rs1, rs2, imm) => {
-                let ($a, $b) = ($machine.register(rs1), $machine.register(rs2));
-                $machine.branch($taken, imm)
-            })*
-            $(Ins::Load(LoadOp::$load, rd, rs1, imm) => {
-                let address = $machine.address(rs1, imm);
-                match $machine.place_in_ram(address, $load_size) {
-                    Some(place) => {
-                        let $number = $machine.number_at(place, $load_size);
-                        $machine.compute(rd, $loaded)
-                    }
-                    None => $machine.read_device(rd, address, $load_size, $next_answer),
-                }
-            })*
-            $(Ins::Store(StoreOp::$store, rs1, rs2, imm) => {
-                $machine.store($machine.address(rs1, imm), $store_size, $machine.register(rs2))
-            })*
-            $(Ins::Imm(ImmOp::$imm_op, rd, rs1, imm) => {
-                let ($imm, $imm_word) = ($machine.register(rs1), imm.cast_unsigned());
-                $machine.compute(rd, $imm_value)
-            })*
-            $(Ins::Shift(ShiftOp::$shift, rd, rs1, $amount) => {
-                let $shifted = $machine.register(rs1);
-                $machine.compute(rd, $shift_value)
-            })*
-            $(Ins::Reg(RegOp::$reg, rd, rs1, rs2) => {
-                let ($c, $d) = ($machine.register(rs1), $machine.register(rs2));
-                $machine.compute(rd, $reg_value)
-            })*
-            Ins::Ecall => Stepped::Halted,
-        }
-    };
+// How many bytes a load moves.
+fn load_size(op: LoadOp) -> u32
+    ensures value { result ≡ load_size op }
+    ensures moved { IsMoved result }
+{
+    match op {
+        LoadOp::Lb | LoadOp::Lbu => 1,
+        LoadOp::Lh | LoadOp::Lhu => 2,
+        LoadOp::Lw => 4,
+    }
+}
+
+// What a load makes of the number of the bytes that it reads.
+fn loaded(op: LoadOp, v: u32) -> u32
+    requires { v < 2 ^ (8 * load_size op) }
+    ensures { result ≡ loaded op v }
+{
+    match op {
+        LoadOp::Lb => sext::<8>(v),
+        LoadOp::Lh => sext::<16>(v),
+        LoadOp::Lw | LoadOp::Lbu | LoadOp::Lhu => v,
+    }
+}
+
+// How many bytes a store moves.
+fn store_size(op: StoreOp) -> u32
+    ensures value { result ≡ store_size op }
+    ensures moved { IsMoved result }
+{
+    match op {
+        StoreOp::Sb => 1,
+        StoreOp::Sh => 2,
+        StoreOp::Sw => 4,
+    }
 }
 
 impl Machine {
@@ -88,59 +68,67 @@ impl Machine {
         self.code_word((self.pc() - self.layout().code_base()) / 4)
     }
 
+    // A register takes what a load makes of bytes of RAM, or what a device answers.
+    fn load(&mut self, op: LoadOp, rd: u32, a: u32, next_answer: Option<u32>) -> Stepped
+        requires { rd < 32 }
+        ensures machine { self.new.state
+            ≡ (unless (load_trap self.old.state.layout a (load_size op))
+            (load_effect op rd a self.old.state next_answer) self.old.state).0 }
+        ensures made { self.new.made ≡ self.old.made }
+        ensures end { result
+            ≡ (unless (load_trap self.old.state.layout a (load_size op))
+            (load_effect op rd a self.old.state next_answer) self.old.state).1 }
+    {
+        let size = load_size(op);
+        match self.place_in_ram(a, size) {
+            Some(place) => {
+                let v = self.number_at(place, size);
+                self.compute(rd, loaded(op, v))
+            }
+            None => self.read_device(rd, a, size, next_answer),
+        }
+    }
+
     // An instruction is carried out, unless it would break a rule.
     fn obey(&mut self, i: Ins, next_answer: Option<u32>) -> Stepped
         requires { Fits i }
         ensures machine { self.new.state
             ≡ (obey i (trap_of i self.old.state) self.old.state next_answer).0 }
         ensures made { (page : ℕ) → page < page_count self.old.state.layout → is_made self.new page
-            ≡ (obeyed_in i (trap_of i self.old.state) self.old.state page || is_made self.old page) }
+            ≡ (obeyed_in i (trap_of i self.old.state) self.old.state page
+            || is_made self.old page) }
         ensures end { result ≡ (obey i (trap_of i self.old.state) self.old.state next_answer).1 }
     {
-        step_table! { self, i, next_answer;
-            upper(high: Lui => high, Auipc => self.pc().wrapping_add(high)),
-            jal,
-            jalr,
-            branch(a, b:
-                Beq => a == b,
-                Bne => a != b,
-                Blt => a.cast_signed() < b.cast_signed(),
-                Bge => a.cast_signed() >= b.cast_signed(),
-                Bltu => a < b,
-                Bgeu => a >= b),
-            load(v: Lb 1 => sext::<8>(v), Lh 2 => sext::<16>(v), Lw 4 => v, Lbu 1 => v, Lhu 2 => v),
-            store(Sb 1, Sh 2, Sw 4),
-            imm(a, b:
-                Addi => a.wrapping_add(b),
-                Slti => (a.cast_signed() < b.cast_signed()) as u32,
-                Sltiu => (a < b) as u32,
-                Xori => a ^ b,
-                Ori => a | b,
-                Andi => a & b),
-            shift(a, n:
-                Slli => a << n,
-                Srli => a >> n,
-                Srai => (a.cast_signed() >> n).cast_unsigned()),
-            reg(a, b:
-                Add => a.wrapping_add(b),
-                Sub => a.wrapping_sub(b),
-                Sll => a << (b % 32),
-                Slt => (a.cast_signed() < b.cast_signed()) as u32,
-                Sltu => (a < b) as u32,
-                Xor => a ^ b,
-                Srl => a >> (b % 32),
-                Sra => (a.cast_signed() >> (b % 32)).cast_unsigned(),
-                Or => a | b,
-                And => a & b,
-                Mul => a.wrapping_mul(b),
-                Mulh => upper_signed(a, b),
-                Mulhsu => upper_mixed(a, b),
-                Mulhu => (u64::from(a) * u64::from(b) >> 32) as u32,
-                Div => signed_quotient(a, b),
-                Divu => if b == 0 { u32::MAX } else { a / b },
-                Rem => signed_remainder(a, b),
-                Remu => if b == 0 { a } else { a % b }),
-            ecall,
+        match i {
+            Ins::Upper(UpperOp::Lui, rd, field) => self.compute(rd, field * 4096),
+            Ins::Upper(UpperOp::Auipc, rd, field) => {
+                self.compute(rd, self.pc().wrapping_add(field * 4096))
+            }
+            Ins::Jal(rd, imm) => self.jump(rd, self.pc().wrapping_add_signed(imm)),
+            Ins::Jalr(rd, rs1, imm) => self.jump(rd, self.jalr_target(rs1, imm)),
+            Ins::Branch(op, rs1, rs2, imm) => {
+                let taken = is_taken(op, self.register(rs1), self.register(rs2));
+                self.branch(taken, imm)
+            }
+            Ins::Load(op, rd, rs1, imm) => {
+                self.load(op, rd, self.address(rs1, imm), next_answer)
+            }
+            Ins::Store(op, rs1, rs2, imm) => {
+                self.store(self.address(rs1, imm), store_size(op), self.register(rs2))
+            }
+            Ins::Imm(op, rd, rs1, imm) => {
+                let v = imm_value(op, self.register(rs1), imm.cast_unsigned());
+                self.compute(rd, v)
+            }
+            Ins::Shift(op, rd, rs1, amount) => {
+                let v = shift_value(op, self.register(rs1), amount);
+                self.compute(rd, v)
+            }
+            Ins::Reg(op, rd, rs1, rs2) => {
+                let v = reg_value(op, self.register(rs1), self.register(rs2));
+                self.compute(rd, v)
+            }
+            Ins::Ecall => Stepped::Halted,
         }
     }
 
@@ -163,8 +151,8 @@ impl Machine {
     /// One step: the instruction at pc is carried out, unless a rule would be broken, in the order
     /// that [`Trap`] gives (RISC-V unprivileged manual, RV32I and the M extension). `next_answer`
     /// is the answer that a device would give next. `Waiting`, `Halted` and `Trapped` change
-    /// nothing, so that the same step answers alike again. A page is made when a byte of it is first
-    /// stored, which takes no memory.
+    /// nothing, so that the same step answers alike again. A page is made when a byte of it is
+    /// first stored, which takes no memory.
     pub fn step(&mut self, next_answer: Option<u32>) -> Stepped
         ensures machine { self.new.state ≡ (step self.old.state next_answer).0 }
         ensures end { result ≡ (step self.old.state next_answer).1 }

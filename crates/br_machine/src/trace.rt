@@ -44,7 +44,8 @@ impl Trace {
     /// One more event, which takes no memory.
     pub(crate) fn push(&mut self, event: Event)
         requires { 0 < self.old.room }
-        ensures { self.new ≡ record { events = self.old.events ++ event ∷ []; room = self.old.room - 1 } }
+        ensures { self.new
+            ≡ record { events = self.old.events ++ event ∷ []; room = self.old.room - 1 } }
     {
         self.events.push_reserved(event);
     }

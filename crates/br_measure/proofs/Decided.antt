@@ -1,7 +1,9 @@
 -- Each program has a fault or is sound: the paths in a table are decided by allowing one function more
 -- between the ends at a time.
-use Rattle.std.proofs.Common.{◌≡◌, ℕ, zero, suc, ◌<◌, ◌≤◌, ◌⊎◌, Bool, true, false, ◌||◌, ◌&&◌, ltb, List, [], ◌∷◌, ◌++◌, Option, Some, None, min, length, get_or, refl, sym, ap, ◌∙◌, arith, ⊎_elim, inl, inr}
-use Rattle.std.proofs.lemmas.Bool.{false≢true, cases_lt, cases_eq, cases_Bool, or_cases, or_left, or_right, and_parts, and_from, ltb-true, ltb-false, lt-ltb}
+use Rattle.std.proofs.Common.{◌≡◌, ℕ, zero, suc, ◌<◌, ◌≤◌, ◌⊎◌, Bool, true, false, ◌||◌, ◌&&◌, ltb, List, [], ◌∷◌, ◌++◌}
+use Rattle.std.proofs.Common.{Option, Some, None, min, length, get_or, refl, sym, ap, ◌∙◌, arith, ⊎_elim, inl, inr}
+use Rattle.std.proofs.lemmas.Bool.{false≢true, cases_lt, cases_eq, cases_Bool, or_cases, or_left, or_right, and_parts}
+use Rattle.std.proofs.lemmas.Bool.{and_from, ltb-true, ltb-false, lt-ltb}
 use Rattle.std.proofs.lemmas.Option.{slice_get-get_or}
 use Rattle.std.specs.List.{slice_get}
 use Rattle.br_syntax.specs.declared.program.Func.{Func}
@@ -27,7 +29,8 @@ module _ (t : List (List ℕ)) where
   reach zero f g = has (row t f) g
   reach (suc k) f g = reach k f g || (reach k f k && reach k k g)
 
-  path_join : (f : ℕ) (hs : List ℕ) (m : ℕ) (is : List ℕ) (g : ℕ) → TablePath t f hs m → TablePath t m is g → TablePath t f (hs ++ m ∷ is) g
+  path_join : (f : ℕ) (hs : List ℕ) (m : ℕ) (is : List ℕ) (g : ℕ) → TablePath t f hs m → TablePath t m is g
+      → TablePath t f (hs ++ m ∷ is) g
   path_join f [] m is g one two = (one, two)
   path_join f (h ∷ hs) m is g one two = (one.0, path_join h hs m is g one.1 two)
 
@@ -38,7 +41,8 @@ module _ (t : List (List ℕ)) where
   reach_leads zero f g r = ([], r)
   reach_leads (suc k) f g r =
       ⊎_elim (λ e. reach_leads k f g e)
-      (λ e. let parts = and_parts (reach k f k) (reach k k g) e in join f k g (reach_leads k f k parts.0) (reach_leads k k g parts.1))
+      (λ e. let parts = and_parts (reach k f k) (reach k k g) e in join f k g (reach_leads k f k parts.0)
+      (reach_leads k k g parts.1))
       (or_cases (reach k f g) (reach k f k && reach k k g) r)
 
   -- a call is a path
@@ -47,19 +51,23 @@ module _ (t : List (List ℕ)) where
   call_reaches (suc k) f g call = or_left (reach k f g) (reach k f k && reach k k g) (call_reaches k f g call)
 
   over : (k f g : ℕ) → reach k f k ≡ true → reach k k g ≡ true → reach (suc k) f g ≡ true
-  over k f g one two = or_right (reach k f g) (reach k f k && reach k k g) (and_from (reach k f k) (reach k k g) one two)
+  over k f g one two = or_right (reach k f g) (reach k f k && reach k k g)
+      (and_from (reach k f k) (reach k k g) one two)
 
   to_last : (k f : ℕ) → reach (suc k) f k ≡ true → reach k f k ≡ true
-  to_last k f r = ⊎_elim (λ e. e) (λ e. (and_parts (reach k f k) (reach k k k) e).0) (or_cases (reach k f k) (reach k f k && reach k k k) r)
+  to_last k f r = ⊎_elim (λ e. e) (λ e. (and_parts (reach k f k) (reach k k k) e).0)
+      (or_cases (reach k f k) (reach k f k && reach k k k) r)
 
   from_last : (k g : ℕ) → reach (suc k) k g ≡ true → reach k k g ≡ true
-  from_last k g r = ⊎_elim (λ e. e) (λ e. (and_parts (reach k k k) (reach k k g) e).1) (or_cases (reach k k g) (reach k k k && reach k k g) r)
+  from_last k g r = ⊎_elim (λ e. e) (λ e. (and_parts (reach k k k) (reach k k g) e).1)
+      (or_cases (reach k k g) (reach k k k && reach k k g) r)
 
   through : (k f h g : ℕ) → h < k → reach k f h ≡ true → reach k h g ≡ true → reach k f g ≡ true
   through zero f h g below one two = absurd (omega arith)
   through (suc k) f h g below one two =
       ⊎_elim
-      (λ (same : h ≡ k). over k f g (to_last k f (ap (λ (m : ℕ). reach (suc k) f m) (sym same) ∙ one)) (from_last k g (ap (λ (m : ℕ). reach (suc k) m g) (sym same) ∙ two)))
+      (λ (same : h ≡ k). over k f g (to_last k f (ap (λ (m : ℕ). reach (suc k) f m) (sym same) ∙ one))
+      (from_last k g (ap (λ (m : ℕ). reach (suc k) m g) (sym same) ∙ two)))
       (λ ne.
       let less : h < k = omega arith in
       ⊎_elim
@@ -77,13 +85,16 @@ module _ (t : List (List ℕ)) where
   path_reaches : IsTable t → (f : ℕ) (hs : List ℕ) (g : ℕ) → TablePath t f hs g → reach (length t) f g ≡ true
   path_reaches table f [] g path = call_reaches (length t) f g path
   path_reaches table f (h ∷ hs) g path =
-      through (length t) f h g (table f h path.0) (call_reaches (length t) f h path.0) (path_reaches table h hs g path.1)
+      through (length t) f h g (table f h path.0) (call_reaches (length t) f h path.0)
+      (path_reaches table h hs g path.1)
 
 -- the first number below n that passes a test, or that none passes
 abbrev Search : (ℕ → Bool) → ℕ → Type 0
-Search test n = ((k : ℕ) → k < n → test k ≡ false) ⊎ ((f : ℕ) × (f < n) × (test f ≡ true) × ((g : ℕ) → g < f → test g ≡ false))
+Search test n = ((k : ℕ) → k < n → test k ≡ false) ⊎
+    ((f : ℕ) × (f < n) × (test f ≡ true) × ((g : ℕ) → g < f → test g ≡ false))
 
-below_next : (test : ℕ → Bool) (n : ℕ) → ((k : ℕ) → k < n → test k ≡ false) → test n ≡ false → (k : ℕ) → k < suc n → test k ≡ false
+below_next : (test : ℕ → Bool) (n : ℕ) → ((k : ℕ) → k < n → test k ≡ false) → test n ≡ false → (k : ℕ) → k < suc n
+    → test k ≡ false
 below_next test n none here k less =
     ⊎_elim (λ (same : k ≡ n). ap test same ∙ here) (λ ne. none k (omega arith)) (cases_eq k n)
 
@@ -103,8 +114,19 @@ first_loop : (t : List (List ℕ)) → IsTable t → (o : Option ℕ) × IsFirst
 first_loop t table =
     let n = length t in
     ⊎_elim
-    (λ none. (None, λ f leads. false≢true (sym (none f (path_within t table f leads.0 f leads.1)) ∙ path_reaches t table f leads.0 f leads.1)))
-    (λ s. (Some s.0, (reach_leads t n s.0 s.0 s.2, λ g less leads. false≢true (sym (s.3 g less) ∙ path_reaches t table g leads.0 g leads.1))))
+    (λ none. (
+      None,
+      λ f leads. false≢true
+          (sym (none f (path_within t table f leads.0 f leads.1)) ∙ path_reaches t table f leads.0 f leads.1),
+    ))
+    (λ s. (
+      Some s.0,
+      (
+        reach_leads t n s.0 s.0 s.2,
+        λ g less leads. false≢true
+            (sym (s.3 g less) ∙ path_reaches t table g leads.0 g leads.1),
+      ),
+    ))
     (search_first (λ f. reach t n f f) n)
 
 module _ (fs : List Func) where
@@ -119,7 +141,8 @@ module _ (fs : List Func) where
       let same : needs_at (length fs) fs f ≡ measure fs g = ap (measure_within (length fs) fs) at in
       lt-ltb 1048576 (needs_at (length fs) fs f) (omega arith)
 
-  by_stack : names_are.HasNoNameFault fs → bulk fs ≤ largest_bulk → HasNoRecursion fs → Search test_deep (length fs) → Outcome
+  by_stack : names_are.HasNoNameFault fs → bulk fs ≤ largest_bulk → HasNoRecursion fs → Search test_deep (length fs)
+      → Outcome
   by_stack names small none found =
       ⊎_elim
       (λ shallow. inl (record {
@@ -127,7 +150,8 @@ module _ (fs : List Func) where
         small = small;
         no_recursion = none;
         shallow = λ k d inside.
-            let same : needs_at (length fs) fs k ≡ measure fs (get_or fs k d) = ap (measure_within (length fs) fs) (slice_get-get_or fs k d inside) in
+            let same : needs_at (length fs) fs k ≡ measure fs (get_or fs k d) =
+            ap (measure_within (length fs) fs) (slice_get-get_or fs k d inside) in
             let below = ltb-false 1048576 (needs_at (length fs) fs k) (shallow k inside) in
             omega arith;
       }))
@@ -149,7 +173,8 @@ module _ (fs : List Func) where
       ))
       found
 
-  by_calls : names_are.HasNoNameFault fs → bulk fs ≤ largest_bulk → (o : Option ℕ) → IsFirstLoop (call_table fs) o → Outcome
+  by_calls : names_are.HasNoNameFault fs → bulk fs ≤ largest_bulk → (o : Option ℕ) → IsFirstLoop (call_table fs) o
+      → Outcome
   by_calls names small None loop = by_stack names small (none_in_table fs loop) (search_first test_deep (length fs))
   by_calls names small (Some f) loop =
       let first = recursive_in_table fs f loop in

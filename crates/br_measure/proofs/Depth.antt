@@ -1,6 +1,7 @@
 -- Where no function has a path of calls to itself, a path has no more functions than the program, so
 -- that as many calls as functions reach all that a function may need.
-use Rattle.std.proofs.Common.{◌≡◌, ℕ, zero, suc, ◌+◌, ◌*◌, ◌<◌, ◌≤◌, true, false, eqb, List, [], ◌∷◌, Option, Some, None, length, get_or, set, map, refl, sym, ap, ◌∙◌, arith, ⊎_elim, Contains}
+use Rattle.std.proofs.Common.{◌≡◌, ℕ, zero, suc, ◌+◌, ◌*◌, ◌<◌, ◌≤◌, true, false, eqb, List, [], ◌∷◌, Option, Some}
+use Rattle.std.proofs.Common.{None, length, get_or, set, map, refl, sym, ap, ◌∙◌, arith, ⊎_elim, Contains}
 use Rattle.std.proofs.lemmas.Bool.{false≢true, or_cases, or_parts, eqb-true, false_from_ne_true, eqb-false}
 use Rattle.std.proofs.lemmas.List.{get_or-set_other}
 use Rattle.std.proofs.lemmas.Option.{slice_get_within}
@@ -13,7 +14,7 @@ use Rattle.br_measure.specs.Bulk.{function_bulk}
 use Rattle.br_measure.specs.Measure.{nested_buffers, measure, measure_within, largest}
 use Rattle.br_measure.specs.Paths.{callees, Calls, CallPath, HasNoRecursion}
 use Rattle.br_measure.specs.Table.{has}
-use Rattle.br_measure.proofs.Positions.{find_at_position, find_no_position}
+use Rattle.br_numbering.proofs.Positions.{find_at_position, find_no_position}
 use Rattle.br_measure.proofs.Rounds.{needs_at, none_needs}
 use Rattle.br_measure.proofs.TablePaths.{callee_within}
 
@@ -40,7 +41,8 @@ others_stay : (ws : List ℕ) (x : ℕ) (xs : List ℕ) → has xs x ≡ false �
 others_stay ws x [] apart = refl
 others_stay ws x (y ∷ ys) apart =
     let parts = or_parts (eqb x y) (has ys x) apart in
-    let other : get_or (set ws x 0) y 0 ≡ get_or ws y 0 = get_or-set_other ws x y 0 0 (λ (e : y ≡ x). eqb-false x y parts.0 (sym e)) in
+    let other : get_or (set ws x 0) y 0 ≡ get_or ws y 0 =
+    get_or-set_other ws x y 0 0 (λ (e : y ≡ x). eqb-false x y parts.0 (sym e)) in
     omega (arith, other, others_stay ws x ys parts.1)
 
 pub weights_apart : (xs ws : List ℕ) → Apart xs → weights_of ws xs ≤ all_weights ws
@@ -53,7 +55,8 @@ abbrev pub Chain : List Func → ℕ → List ℕ → Type 0
 Chain fs f [] = Unit {0}
 Chain fs f (h ∷ hs) = Calls fs f h × Chain fs h hs
 
-chain_path : (fs : List Func) (f : ℕ) (hs : List ℕ) (q : ℕ) → Chain fs f hs → has hs q ≡ true → (between : List ℕ) × CallPath fs f between q
+chain_path : (fs : List Func) (f : ℕ) (hs : List ℕ) (q : ℕ) → Chain fs f hs → has hs q ≡ true → (between : List ℕ)
+    × CallPath fs f between q
 chain_path fs f [] q chain stands = absurd (false≢true stands)
 chain_path fs f (h ∷ hs) q chain stands =
     ⊎_elim
@@ -64,7 +67,8 @@ chain_path fs f (h ∷ hs) q chain stands =
 pub chain_apart : (fs : List Func) → HasNoRecursion fs → (f : ℕ) (hs : List ℕ) → Chain fs f hs → Apart (f ∷ hs)
 chain_apart fs none f [] chain = (refl, tt)
 chain_apart fs none f (h ∷ hs) chain = (
-  false_from_ne_true (has (h ∷ hs) f) (λ stands. let path = chain_path fs f (h ∷ hs) f chain stands in none f path.0 path.1),
+  false_from_ne_true (has (h ∷ hs) f)
+      (λ stands. let path = chain_path fs f (h ∷ hs) f chain stands in none f path.0 path.1),
   chain_apart fs none h hs chain.1,
 )
 
@@ -86,13 +90,22 @@ chain_ones : (fs : List Func) (f : ℕ) (hs : List ℕ) → Chain fs f hs → we
 chain_ones fs f [] chain = refl
 chain_ones fs f (h ∷ hs) chain = omega (arith, one_at fs h (callee_within fs f h chain.0), chain_ones fs h hs chain.1)
 
-pub chain_short : (fs : List Func) → HasNoRecursion fs → (f : ℕ) → f < length fs → (hs : List ℕ) → Chain fs f hs → length hs < length fs
+pub chain_short : (fs : List Func) → HasNoRecursion fs → (f : ℕ) → f < length fs → (hs : List ℕ) → Chain fs f hs
+    → length hs < length fs
 chain_short fs none f inside hs chain =
-    omega (arith, weights_apart (f ∷ hs) (map one fs) (chain_apart fs none f hs chain), one_at fs f inside, chain_ones fs f hs chain, all_ones fs)
+    omega (
+      arith,
+      weights_apart (f ∷ hs) (map one fs) (chain_apart fs none f hs chain),
+      one_at fs f inside,
+      chain_ones
+          fs f hs chain,
+      all_ones fs,
+    )
 
 -- one call deeper changes nothing where no path is so long
 
-map_same_in : (F G : List ℕ → ℕ) (names : List (List ℕ)) → ((x : List ℕ) → Contains names x → F x ≡ G x) → map F names ≡ map G names
+map_same_in : (F G : List ℕ → ℕ) (names : List (List ℕ)) → ((x : List ℕ) → Contains names x → F x ≡ G x) → map F names
+    ≡ map G names
 map_same_in F G [] same = refl
 map_same_in F G (x ∷ xs) same =
     let head = same x (0, omega arith, refl) in
@@ -107,7 +120,8 @@ module _ (fs : List Func) where
       → measure_within low fs (function_named fs x) ≡ measure_within high fs (function_named fs x)
   by_number low high caller f at same x called None is =
       let none = find_no_position (λ h. bytes_eq h.name x) fs is in
-      ap (measure_within low fs) none ∙ none_needs low fs ∙ sym (none_needs high fs) ∙ ap (measure_within high fs) (sym none)
+      ap (measure_within low fs) none ∙ none_needs low fs ∙ sym (none_needs high fs)
+      ∙ ap (measure_within high fs) (sym none)
   by_number low high caller f at same x called (Some g) is =
       let found = find_at_position (λ h. bytes_eq h.name x) fs g is in
       ap (measure_within low fs) found
@@ -116,9 +130,11 @@ module _ (fs : List Func) where
 
   callees_same : (low high : ℕ) (caller : Func) (f : ℕ) → slice_get fs f ≡ Some caller
       → ((g : ℕ) → Calls fs f g → needs_at low fs g ≡ needs_at high fs g)
-      → largest (map (λ x. measure_within low fs (function_named fs x)) (callees caller)) ≡ largest (map (λ x. measure_within high fs (function_named fs x)) (callees caller))
+      → largest (map (λ x. measure_within low fs (function_named fs x)) (callees caller))
+      ≡ largest (map (λ x. measure_within high fs (function_named fs x)) (callees caller))
   callees_same low high caller f at same =
-      ap largest (map_same_in (λ x. measure_within low fs (function_named fs x)) (λ x. measure_within high fs (function_named fs x)) (callees caller)
+      ap largest (map_same_in (λ x. measure_within low fs (function_named fs x))
+      (λ x. measure_within high fs (function_named fs x)) (callees caller)
       (λ x called. by_number low high caller f at same x called (number_named fs x) refl))
 
   -- where paths from f have fewer calls than so many
@@ -128,10 +144,13 @@ module _ (fs : List Func) where
   shorter : (f n g : ℕ) → Calls fs f g → Short f (suc n) → Short g n
   shorter f n g call short hs chain = omega (arith, short (g ∷ hs) (call, chain))
 
-  stays_at : (n f : ℕ) (o : Option Func) → slice_get fs f ≡ o → ((g : ℕ) → Calls fs f g → needs_at n fs g ≡ needs_at (suc n) fs g)
+  stays_at : (n f : ℕ) (o : Option Func) → slice_get fs f ≡ o
+      → ((g : ℕ) → Calls fs f g → needs_at n fs g ≡ needs_at (suc n) fs g)
       → measure_within (suc n) fs o ≡ measure_within (suc (suc n)) fs o
   stays_at n f None at same = refl
-  stays_at n f (Some caller) at same = ap (λ (m : ℕ). 4 * function_bulk caller + 256 + nested_buffers caller + m) (callees_same n (suc n) caller f at same)
+  stays_at n f (Some caller) at same =
+      ap (λ (m : ℕ). 4 * function_bulk caller + 256 + nested_buffers caller + m)
+      (callees_same n (suc n) caller f at same)
 
   pub stays : (n f : ℕ) → Short f n → needs_at n fs f ≡ needs_at (suc n) fs f
   stays zero f short = absurd (omega (arith, short [] tt))
@@ -139,31 +158,38 @@ module _ (fs : List Func) where
 
 -- what the measure of a function is
 
-measured_at : (fs : List Func) → HasNoRecursion fs → (f : ℕ) (caller : Func) → slice_get fs f ≡ Some caller → f < length fs → (n : ℕ) → length fs ≡ suc n
+measured_at : (fs : List Func) → HasNoRecursion fs → (f : ℕ) (caller : Func) → slice_get fs f ≡ Some caller
+    → f < length fs → (n : ℕ) → length fs ≡ suc n
     → measure_within (suc n) fs (Some caller)
-    ≡ 4 * function_bulk caller + 256 + nested_buffers caller + largest (map (λ x. measure_within (suc n) fs (function_named fs x)) (callees caller))
+    ≡ 4 * function_bulk caller + 256 + nested_buffers caller + largest
+    (map (λ x. measure_within (suc n) fs (function_named fs x)) (callees caller))
 measured_at fs none f caller at inside n len =
     ap (λ (m : ℕ). 4 * function_bulk caller + 256 + nested_buffers caller + m)
     (callees_same fs n (suc n) caller f at
     (λ g call. stays fs n g (shorter fs f n g call (λ hs chain. omega (arith, chain_short fs none f inside hs chain)))))
 
-of_option : (fs : List Func) (o : Option Func) → measure_within (length fs) fs o ≡ unwrap_or (option_map (measure fs) o) 0
+of_option : (fs : List Func) (o : Option Func) → measure_within (length fs) fs o
+    ≡ unwrap_or (option_map (measure fs) o) 0
 of_option fs None = none_needs (length fs) fs
 of_option fs (Some f) = refl
 
 all_of_option : (fs : List Func) (names : List (List ℕ))
-    → largest (map (λ x. measure_within (length fs) fs (function_named fs x)) names) ≡ largest (map (λ x. unwrap_or (option_map (measure fs) (function_named fs x)) 0) names)
+    → largest (map (λ x. measure_within (length fs) fs (function_named fs x)) names)
+    ≡ largest (map (λ x. unwrap_or (option_map (measure fs) (function_named fs x)) 0) names)
 all_of_option fs [] = refl
 all_of_option fs (x ∷ xs) = omega (arith, of_option fs (function_named fs x), all_of_option fs xs)
 
-measured : (fs : List Func) → HasNoRecursion fs → (f : ℕ) (caller : Func) → slice_get fs f ≡ Some caller → f < length fs → (n : ℕ) → length fs ≡ n
+measured : (fs : List Func) → HasNoRecursion fs → (f : ℕ) (caller : Func) → slice_get fs f ≡ Some caller → f < length fs
+    → (n : ℕ) → length fs ≡ n
     → measure_within n fs (Some caller)
-    ≡ 4 * function_bulk caller + 256 + nested_buffers caller + largest (map (λ x. measure_within n fs (function_named fs x)) (callees caller))
+    ≡ 4 * function_bulk caller + 256 + nested_buffers caller + largest
+    (map (λ x. measure_within n fs (function_named fs x)) (callees caller))
 measured fs none f caller at inside zero len = absurd (omega arith)
 measured fs none f caller at inside (suc n) len = measured_at fs none f caller at inside n len
 
 pub measure_adds_up : (fs : List Func) (f : ℕ) (caller : Func) → HasNoRecursion fs → slice_get fs f ≡ Some caller
-    → measure fs caller ≡ 4 * function_bulk caller + 256 + nested_buffers caller + largest (map (λ x. unwrap_or (option_map (measure fs) (function_named fs x)) 0) (callees caller))
+    → measure fs caller ≡ 4 * function_bulk caller + 256 + nested_buffers caller + largest
+    (map (λ x. unwrap_or (option_map (measure fs) (function_named fs x)) 0) (callees caller))
 measure_adds_up fs f caller none at =
     measured fs none f caller at (slice_get_within fs f caller at) (length fs) refl
     ∙ ap (λ (m : ℕ). 4 * function_bulk caller + 256 + nested_buffers caller + m) (all_of_option fs (callees caller))

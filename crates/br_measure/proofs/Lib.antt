@@ -3,13 +3,12 @@ pub mod CalleeParts
 pub mod CommandFaults
 pub mod Decided
 pub mod Depth
+pub mod Duplicates
 pub mod FoundFaults
 pub mod Largest
 pub mod LowestParts
 pub mod Marking
-pub mod Numbered
 pub mod OneFault
-pub mod Positions
 pub mod Reach
 pub mod Rounds
 pub mod SameFaults

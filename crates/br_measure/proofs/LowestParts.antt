@@ -1,5 +1,6 @@
 -- The lowest of faults in parts.
-use Rattle.std.proofs.Common.{◌≡◌, ℕ, List, [], ◌∷◌, ◌++◌, Option, Some, None, ◌+◌, ◌<◌, length, get_or, drop, map, refl, ap, ◌∙◌, arith}
+use Rattle.std.proofs.Common.{◌≡◌, ℕ, List, [], ◌∷◌, ◌++◌, Option, Some, None, ◌+◌, ◌<◌, length, get_or, drop, map}
+use Rattle.std.proofs.Common.{refl, ap, ◌∙◌, arith}
 use Rattle.std.proofs.lemmas.Grind.{common_steps}
 use Rattle.br_measure.specs.declared.faults.NameFault.{NameFault}
 use Rattle.br_measure.specs.Names.{joined}
@@ -23,12 +24,15 @@ lowest_append [] ys = refl
 lowest_append (x ∷ xs) ys = ap (lower (Some x)) (lowest_append xs ys) ∙ lower_assoc (Some x) (lowest xs) (lowest ys)
 
 -- the fault so far and those of the items that follow, one item further
-pub lowest_step : {X : Type 0} (F : X → List NameFault) (xs : List X) (i : ℕ) (x : X) (fault part more whole : Option NameFault)
+pub lowest_step : {X : Type 0} (F : X → List NameFault) (xs : List X) (i : ℕ) (x : X)
+    (fault part more whole : Option NameFault)
     → i < length xs → x ≡ get_or xs i x → part ≡ lowest (F x) → more ≡ lower fault part
-    → lower fault (lowest (joined (map F (drop i xs)))) ≡ whole → lower more (lowest (joined (map F (drop (i + 1) xs)))) ≡ whole
+    → lower fault (lowest (joined (map F (drop i xs)))) ≡ whole → lower more (lowest (joined (map F (drop (i + 1) xs))))
+    ≡ whole
 lowest_step {X} F xs i x fault part more whole inside is found one so_far =
     let split : drop i xs ≡ x ∷ drop (i + 1) xs = grind (arith, common_steps) in
-    let there = ap (λ (ys : List X). lowest (joined (map F ys))) split ∙ lowest_append (F x) (joined (map F (drop (i + 1) xs))) in
+    let there = ap (λ (ys : List X). lowest (joined (map F ys))) split
+    ∙ lowest_append (F x) (joined (map F (drop (i + 1) xs))) in
     rw (one, found, ← lower_assoc fault (lowest (F x)) (lowest (joined (map F (drop (i + 1) xs)))), ← there) so_far
 
 pub ruleset lowests = (lower_none, lowest_append)

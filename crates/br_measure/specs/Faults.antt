@@ -5,7 +5,11 @@ use Rattle.br_syntax.specs.declared.program.Func.{Func}
 use Rattle.br_syntax.specs.FaultOrder.{IsLowest}
 use Rattle.br_syntax.specs.NameFaults.{HasNoNameFault}
 use Rattle.br_measure.specs.declared.faults.NameFault.{NameFault}
-use Rattle.br_measure.specs.declared.faults.NameFault.TheVariants.{DuplicateFunction, UnknownFunction, WrongArguments, WrongResults, UnknownAction, TooLarge, Recursion, StackTooDeep}
+use Rattle.br_measure.specs.declared.faults.NameFault.TheVariants.{DuplicateFunction}
+use Rattle.br_measure.specs.declared.faults.NameFault.TheVariants.{UnknownFunction, WrongArguments}
+use Rattle.br_measure.specs.declared.faults.NameFault.TheVariants.{WrongResults, UnknownAction}
+use Rattle.br_measure.specs.declared.faults.NameFault.TheVariants.{TooLarge, Recursion}
+use Rattle.br_measure.specs.declared.faults.NameFault.TheVariants.{StackTooDeep}
 use Rattle.br_measure.specs.Bulk.{bulk, largest_bulk}
 use Rattle.br_measure.specs.Names.{place, name_faults}
 use Rattle.br_measure.specs.Paths.{CallPath, HasNoRecursion}
@@ -30,7 +34,8 @@ IsLaterFault fs (TooLarge b) = (largest_bulk < bulk fs) × (b ≡ min (bulk fs) 
 IsLaterFault fs (Recursion f) =
     (bulk fs ≤ largest_bulk) × IsRecursive fs f × ((g : ℕ) → g < f → IsRecursive fs g → ⊥)
 IsLaterFault fs (StackTooDeep f s) =
-    (bulk fs ≤ largest_bulk) × HasNoRecursion fs × IsTooDeep fs f s × ((g t : ℕ) → g < f → IsTooDeep fs g t → ⊥)
+    (bulk fs ≤ largest_bulk) × HasNoRecursion fs × IsTooDeep fs f s
+    × ((g t : ℕ) → g < f → IsTooDeep fs g t → ⊥)
 IsLaterFault fs (DuplicateFunction at) = ⊥
 IsLaterFault fs (UnknownFunction at) = ⊥
 IsLaterFault fs (WrongArguments at) = ⊥
@@ -39,7 +44,8 @@ IsLaterFault fs (UnknownAction at) = ⊥
 
 -- the fault of a program: the lowest fault of a name, else a later one
 abbrev pub IsFault : List Func → NameFault → Type 0
-IsFault fs fault = IsLowest place (name_faults fs) fault ⊎ (HasNoNameFault fs × IsLaterFault fs fault)
+IsFault fs fault = IsLowest place (name_faults fs) fault ⊎
+    (HasNoNameFault fs × IsLaterFault fs fault)
 
 -- a program that has no fault
 pub record IsSound (fs : List Func) : Type 0 where

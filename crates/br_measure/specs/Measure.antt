@@ -1,6 +1,8 @@
--- The most bytes of stack that a function may need. It is meant for programs in which no function has
+-- The most bytes of stack that a function may need. It is meant for programs in which no function
+-- has
 -- a path of calls to itself.
-use Rattle.std.specs.Prelude.{ℕ, zero, suc, ◌+◌, ◌*◌, max, List, [], ◌∷◌, map, length, Option, Some, None}
+use Rattle.std.specs.Prelude.{ℕ, zero, suc, ◌+◌, ◌*◌, max, List, [], ◌∷◌, map, length, Option, Some}
+use Rattle.std.specs.Prelude.{None}
 use Rattle.br_syntax.specs.declared.program.Cmd.TheOpen.{Cmd-F}
 use Rattle.br_syntax.specs.declared.program.Cmd.TheFolds.{fold-Cmd}
 use Rattle.br_syntax.specs.declared.program.Func.{Func}

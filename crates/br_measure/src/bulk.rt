@@ -1,7 +1,8 @@
 // The bulk of programs, computed in 32 bits. A sum past the type's end stays at the type's end.
 
 ghost use Rattle.std.specs.Prelude.{◌≡◌, ℕ, ◌+◌, ◌/◌, min, length};
-ghost use Rattle.br_measure.specs.Bulk.{bulk, words_for, function_bulk, command_bulk, commands_bulk, expression_bulk, expressions_bulk};
+ghost use Rattle.br_measure.specs.Bulk.{bulk, words_for, function_bulk, command_bulk};
+ghost use Rattle.br_measure.specs.Bulk.{commands_bulk, expression_bulk, expressions_bulk};
 
 use br_syntax::{Cmd, Expr, Func, Program};
 

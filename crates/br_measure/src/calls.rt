@@ -5,8 +5,8 @@ ghost use Rattle.br_syntax.specs.declared.program.Cmd.TheFolds.{fold-Cmd};
 ghost use Rattle.br_measure.specs.Paths.{callees, callees_step, joined};
 ghost use Rattle.br_measure.specs.Table.{numbers_named, call_table};
 
-use crate::index::Index;
 use br_base::NoMemory;
+use br_numbering::Index;
 use br_syntax::{Cmd, Func};
 use sqlite_items::Items;
 use std::alloc::Global;
@@ -32,7 +32,9 @@ fn callees(alloc: Global, index: &Index, f: &Func) -> Result<Items<usize>, NoMem
 
 #[cycle(calls)]
 fn commands(index: &Index, cs: &[Cmd], found: &mut Items<usize>) -> Result<(), NoMemory>
-    ensures { OnOk result (found.new ≡ found.old ++ numbers_named index.now.funcs.now (joined (map (fold-Cmd (List (List ℕ)) callees_step) cs.now))) }
+    ensures { OnOk result (found.new
+        ≡ found.old ++ numbers_named index.now.funcs.now
+        (joined (map (fold-Cmd (List (List ℕ)) callees_step) cs.now))) }
 {
     for c in cs {
         command(index, c, found)?;
@@ -42,7 +44,9 @@ fn commands(index: &Index, cs: &[Cmd], found: &mut Items<usize>) -> Result<(), N
 
 #[cycle(calls)]
 fn command(index: &Index, c: &Cmd, found: &mut Items<usize>) -> Result<(), NoMemory>
-    ensures { OnOk result (found.new ≡ found.old ++ numbers_named index.now.funcs.now (fold-Cmd (List (List ℕ)) callees_step c.now)) }
+    ensures { OnOk result (found.new
+        ≡ found.old ++ numbers_named index.now.funcs.now
+        (fold-Cmd (List (List ℕ)) callees_step c.now)) }
 {
     match c {
         Cmd::Stackalloc(_, _, body) | Cmd::While(_, body) | Cmd::Seq(body) => {

@@ -1,6 +1,7 @@
 // Programs that keep every rule on names, bulk, recursion and stack.
 
-ghost use Rattle.std.specs.Prelude.{◌≡◌, ℕ, ◌<◌, ◌≤◌, List, Some, length, map, min, slice_get, IfOk, IfErr};
+ghost use Rattle.std.specs.Prelude.{◌≡◌, ℕ, ◌<◌, ◌≤◌, List, Some, length, map, min, slice_get};
+ghost use Rattle.std.specs.Prelude.{IfOk, IfErr};
 ghost use Rattle.br_base.specs.Faults.{IfFault};
 ghost use Rattle.br_syntax.specs.declared.program.Func.{Func};
 ghost use Rattle.br_syntax.specs.Functions.{number_named};

@@ -54,7 +54,7 @@ impl NameFault {
         }
     }
 
-    // The lower of two faults of names.
+    /// The lower of two faults of names.
     pub fn lower_of(self, other: NameFault) -> NameFault
         ensures { result ≡ lower_of self other }
     {

@@ -13,9 +13,11 @@ ghost use Rattle.br_measure.specs.Paths.{callees, HasNoRecursion};
 /// Where no function has a path of calls to itself, the measure of a function is what it needs for
 /// itself and the largest measure of its callees.
 pub fn measures_add_up()
-    ensures { (fs : List Func) (f : ℕ) (caller : Func) → HasNoRecursion fs → slice_get fs f ≡ Some caller →
+    ensures { (fs : List Func) (f : ℕ) (caller : Func) → HasNoRecursion fs → slice_get fs f
+        ≡ Some caller →
         measure fs caller ≡ 4 * function_bulk caller + 256 + nested_buffers caller
-        + largest (map (λ x. unwrap_or (option_map (measure fs) (function_named fs x)) 0) (callees caller)) }
+        + largest (map (λ x. unwrap_or (option_map (measure fs) (function_named fs x)) 0)
+        (callees caller)) }
 {}
 
 /// A program has a fault or none: a sound program has no fault.
@@ -25,7 +27,8 @@ pub fn sound_programs_have_no_fault()
 
 /// A program has at most one fault.
 pub fn faults_are_unique()
-    ensures { (fs : List Func) (first second : NameFault) → IsFault fs first → IsFault fs second → first ≡ second }
+    ensures { (fs : List Func) (first second : NameFault) → IsFault fs first → IsFault fs second
+        → first ≡ second }
 {}
 
 /// A program is sound or has a fault.

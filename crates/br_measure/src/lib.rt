@@ -5,7 +5,6 @@ mod bulk;
 mod calls;
 mod checking;
 mod faults;
-mod index;
 mod laws;
 mod lowest;
 mod measures;

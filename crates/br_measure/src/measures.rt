@@ -1,4 +1,5 @@
-// The most bytes of stack that functions may need, computed in 32 bits. A number past the type's end
+// The most bytes of stack that functions may need, computed in 32 bits. A number past the type's
+// end
 // stays at the type's end.
 
 ghost use Rattle.std.specs.Prelude.{◌≡◌, ℕ, ◌+◌, ◌*◌, ◌<◌, min, length, map, slice_index, IfOk};
@@ -40,7 +41,10 @@ fn one_call_further(
 ) -> Result<Vec<u32>, NoMemory>
     requires { length own.now ≡ length table.now }
     ensures len { IfOk result (λ after. length after.items ≡ length table.now) }
-    ensures needs { IfOk result (λ after. (f : ℕ) → f < length table.now → slice_index after.items f ≡ min (slice_index own.now f + largest (map (λ g. slice_index needs.now g) (row table.now f))) 4294967295) }
+    ensures needs { IfOk result
+        (λ after. (f : ℕ) → f < length table.now → slice_index after.items f
+        ≡ min (slice_index own.now f + largest
+        (map (λ g. slice_index needs.now g) (row table.now f))) 4294967295) }
 {
     let mut after = Vec::new(alloc);
     for (f, callees) in table.iter().enumerate() {
@@ -63,7 +67,8 @@ fn largest_need(needs: &[u32], callees: &[usize]) -> u32
 
 // The bytes of each function for itself.
 fn own_needs(alloc: Global, funcs: &[Func]) -> Result<Items<u32>, NoMemory>
-    ensures { IfOk result (λ own. own ≡ map (λ f. min (4 * function_bulk f + 256 + nested_buffers f) 4294967295) funcs.now) }
+    ensures { IfOk result (λ own. own
+        ≡ map (λ f. min (4 * function_bulk f + 256 + nested_buffers f) 4294967295) funcs.now) }
 {
     let mut own = Items::new(alloc);
     for f in funcs {

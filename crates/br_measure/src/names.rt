@@ -1,14 +1,16 @@
 // The lowest fault of the names in a program.
 
-ghost use Rattle.std.specs.Prelude.{◌≡◌, IfOk, map};
-ghost use Rattle.br_measure.specs.Names.{joined, count_faults, action_faults, call_faults, command_faults, commands_faults, name_faults};
+ghost use Rattle.std.specs.Prelude.{◌≡◌, [], ◌∷◌, Some, IfOk, map, slice_get, take};
+ghost use Rattle.br_measure.specs.Names.{joined, count_faults, action_faults, call_faults};
+ghost use Rattle.br_measure.specs.Names.{command_faults, commands_faults, duplicates_after};
+ghost use Rattle.br_measure.specs.Names.{name_faults};
 ghost use Rattle.br_measure.specs.Lowest.{lowest};
 ghost use Rattle.br_syntax.specs.Functions.{function_named};
 
 use crate::faults::NameFault;
-use crate::index::Index;
 use crate::lowest::lower;
 use br_base::{Name, NoMemory};
+use br_numbering::Index;
 use br_syntax::{Cmd, Func};
 use std::alloc::Global;
 
@@ -21,14 +23,43 @@ pub fn read_names<'a>(
     ensures functions { IfOk result (λ r. r.0.funcs.now ≡ funcs.now) }
     ensures fault { IfOk result (λ r. r.1 ≡ lowest (name_faults funcs.now)) }
 {
-    let (index, duplicate) = Index::new(alloc, funcs)?;
-    let fault = lower(duplicate, bodies(&index));
+    let index = Index::new(alloc, funcs)?;
+    let fault = lower(duplicates(&index), bodies(&index));
     Ok((index, fault))
+}
+
+// The lowest fault of a name that an earlier function has.
+fn duplicates(index: &Index) -> Option<NameFault>
+    ensures { result ≡ lowest (duplicates_after [] index.now.funcs.now) }
+{
+    let mut fault = None;
+    for (i, f) in index.funcs.iter().enumerate() {
+        fault = lower(fault, duplicate(index, i, f));
+    }
+    fault
+}
+
+// The fault of the name of a function at its place, where an earlier one has it.
+fn duplicate(index: &Index, i: usize, f: &Func) -> Option<NameFault>
+    requires { slice_get index.now.funcs.now i ≡ Some f.now }
+    ensures { result ≡ lowest (duplicates_after (take i index.now.funcs.now) (f.now ∷ [])) }
+{
+    match index.number(f.name.bytes()) {
+        Some(first) => {
+            if first < i {
+                Some(NameFault::DuplicateFunction(f.at))
+            } else {
+                None
+            }
+        }
+        None => None,
+    }
 }
 
 #[tactic(auto, using(crate::proofs::LowestParts::lowests))]
 fn bodies(index: &Index) -> Option<NameFault>
-    ensures { result ≡ lowest (joined (map (λ f. commands_faults index.now.funcs.now f.body) index.now.funcs.now)) }
+    ensures { result ≡ lowest
+        (joined (map (λ f. commands_faults index.now.funcs.now f.body) index.now.funcs.now)) }
 {
     let mut fault = None;
     for f in index.funcs {
@@ -80,7 +111,8 @@ fn command(index: &Index, c: &Cmd) -> Option<NameFault>
 
 // A call with these numbers of arguments and results.
 fn call(index: &Index, at: u32, args: usize, results: usize, callee: &Name) -> Option<NameFault>
-    ensures { result ≡ lowest (call_faults at args results (function_named index.now.funcs.now callee.now)) }
+    ensures { result ≡ lowest
+        (call_faults at args results (function_named index.now.funcs.now callee.now)) }
 {
     match index.function(callee.bytes()) {
         Some(f) => counts(at, f.args.len(), f.results.len(), args, results),

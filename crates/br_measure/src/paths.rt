@@ -25,7 +25,8 @@ fn reached(alloc: Global, table: &[Items<usize>], f: usize) -> Result<Vec<bool>,
     requires table { IsTable table.now }
     requires within { f < length table.now }
     ensures len { IfOk result (λ seen. length seen.items ≡ length table.now) }
-    ensures leads { IfOk result (λ seen. (g : ℕ) → (slice_index_or seen.items g false ≡ true) ↔ Leads table.now f g) }
+    ensures leads { IfOk result
+        (λ seen. (g : ℕ) → (slice_index_or seen.items g false ≡ true) ↔ Leads table.now f g) }
 {
     let mut seen = vec![in alloc; false; table.len()]?;
     let mut left = Vec::from_slice(alloc, callees(table, f))?;

@@ -1,6 +1,7 @@
 // The rules on a program, one after the other.
 
-ghost use Rattle.std.specs.Prelude.{◌≡◌, ℕ, ◌<◌, ◌≤◌, List, Some, None, min, map, length, nat_lt, IfOk};
+ghost use Rattle.std.specs.Prelude.{◌≡◌, ℕ, ◌<◌, ◌≤◌, List, Some, None, min, map, length, nat_lt};
+ghost use Rattle.std.specs.Prelude.{IfOk};
 ghost use Rattle.std.specs.List.{position};
 ghost use Rattle.br_syntax.specs.declared.program.Func.{Func};
 ghost use Rattle.br_syntax.specs.Shape.{IsShaped};
@@ -14,11 +15,11 @@ ghost use Rattle.br_measure.specs.Examination.{IsExamined};
 
 use crate::calls::call_table;
 use crate::faults::NameFault;
-use crate::index::Index;
 use crate::measures::measures;
 use crate::names::read_names;
 use crate::paths::first_recursive;
 use br_base::NoMemory;
+use br_numbering::Index;
 use br_syntax::Func;
 use sqlite_items::Items;
 use std::alloc::Global;

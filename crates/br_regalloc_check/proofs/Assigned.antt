@@ -14,7 +14,8 @@ use Rattle.br_flatimp.specs.declared.program.Stmt.TheViews.{roll-Stmt}
 use Rattle.br_flatimp.specs.declared.program.Stmt.TheFolds.{fold-roll-Stmt, ind-Stmt}
 use Rattle.br_flatimp.specs.Liveness.{Moment, function_moments}
 use Rattle.br_flatimp.specs.Runs.{forgets_none}
-use Rattle.br_flatimp.specs.Renaming.{Allows, RenamedFunction, RenamedFunctions, renamed, renamed_operand, renamed_step, renamed_test}
+use Rattle.br_flatimp.specs.Renaming.{Allows, RenamedFunction, RenamedFunctions, renamed}
+use Rattle.br_flatimp.specs.Renaming.{renamed_operand, renamed_step, renamed_test}
 use Rattle.br_regalloc_check.specs.Accepted.{IsAccepted, MayRename}
 use Rattle.br_regalloc_check.specs.Assigned.{AreAssigned, IsAssigned, function_renamed}
 use Rattle.br_regalloc_check.proofs.Lists.{all-change, differ-apart}
@@ -55,21 +56,25 @@ layer-stays (Stmt-F.Store size y z offset) = refl
 layer-stays (Stmt-F.Table x size bytes y) = refl
 layer-stays (Stmt-F.Stackalloc x n body) = ap (λ b. Stmt-F.Stackalloc x n b) (all-stay body)
 layer-stays (Stmt-F.If test first second) =
-    ap (λ t. Stmt-F.If t (map (renamed (λ x. x)) (map (λ e. e.0) first)) (map (renamed (λ x. x)) (map (λ e. e.0) second))) (same_test test)
+    ap (λ t. Stmt-F.If t (map (renamed (λ x. x)) (map (λ e. e.0) first))
+    (map (renamed (λ x. x)) (map (λ e. e.0) second))) (same_test test)
     ∙ ap (λ b. Stmt-F.If test b (map (renamed (λ x. x)) (map (λ e. e.0) second))) (all-stay first)
     ∙ ap (λ b. Stmt-F.If test (map (λ e. e.0) first) b) (all-stay second)
 layer-stays (Stmt-F.Loop first test last) =
-    ap (λ t. Stmt-F.Loop (map (renamed (λ x. x)) (map (λ e. e.0) first)) t (map (renamed (λ x. x)) (map (λ e. e.0) last))) (same_test test)
+    ap (λ t. Stmt-F.Loop (map (renamed (λ x. x)) (map (λ e. e.0) first)) t
+    (map (renamed (λ x. x)) (map (λ e. e.0) last))) (same_test test)
     ∙ ap (λ b. Stmt-F.Loop b test (map (renamed (λ x. x)) (map (λ e. e.0) last))) (all-stay first)
     ∙ ap (λ b. Stmt-F.Loop (map (λ e. e.0) first) test b) (all-stay last)
-layer-stays (Stmt-F.Call xs g ys) = ap (λ zs. Stmt-F.Call zs g (map (λ x. x) ys)) (map_same xs) ∙ ap (λ zs. Stmt-F.Call xs g zs) (map_same ys)
+layer-stays (Stmt-F.Call xs g ys) =
+    ap (λ zs. Stmt-F.Call zs g (map (λ x. x) ys)) (map_same xs) ∙ ap (λ zs. Stmt-F.Call xs g zs) (map_same ys)
 layer-stays (Stmt-F.Read x y) = refl
 layer-stays (Stmt-F.Write y z) = refl
 
 statement-stays : (c : Stmt) → Stays c
 statement-stays = ind-Stmt Stays (λ x y is.
     fold-roll-Stmt Stmt (λ z. roll-Stmt (renamed_step (λ n. n) z)) x
-    ∙ ap roll-Stmt (subst (λ z. renamed_step (λ n. n) (map-Stmt Stmt Stmt (renamed (λ n. n)) z) ≡ z) is (layer-stays y)))
+    ∙ ap roll-Stmt
+    (subst (λ z. renamed_step (λ n. n) (map-Stmt Stmt Stmt (renamed (λ n. n)) z) ≡ z) is (layer-stays y)))
 
 body-stays : (cs : List Stmt) → map (renamed (λ x. x)) cs ≡ cs
 body-stays [] = refl
@@ -91,7 +96,8 @@ same-function f = record {
   allowed = all-allowed (function_moments f);
 }
 
-pub new-function : (f : FlatFunc) (to : List ℕ) → IsAccepted f to → RenamedFunction (slice_index to) forgets_none (function_renamed (slice_index to) f) f
+pub new-function : (f : FlatFunc) (to : List ℕ) → IsAccepted f to
+    → RenamedFunction (slice_index to) forgets_none (function_renamed (slice_index to) f) f
 new-function f to h = record {
   name = refl;
   args = refl;
@@ -103,10 +109,14 @@ new-function f to h = record {
 }
 
 one-renamed : (q f : FlatFunc) (p : Proposal) → IsAssigned q f p → (to : ℕ → ℕ) × RenamedFunction to forgets_none q f
-one-renamed q f p (inl h) = (slice_index p.to, subst (λ g. RenamedFunction (slice_index p.to) forgets_none g f) (sym h.1) (new-function f p.to h.0))
+one-renamed q f p (inl h) = (
+  slice_index p.to,
+  subst (λ g. RenamedFunction (slice_index p.to) forgets_none g f) (sym h.1) (new-function f p.to h.0),
+)
 one-renamed q f p (inr h) = (λ x. x, subst (λ g. RenamedFunction (λ x. x) forgets_none g f) (sym h.1) (same-function f))
 
-pub all-renamed : (qs fs : List FlatFunc) (ps : List Proposal) → AreAssigned qs fs ps → RenamedFunctions forgets_none qs fs
+pub all-renamed : (qs fs : List FlatFunc) (ps : List Proposal) → AreAssigned qs fs ps
+    → RenamedFunctions forgets_none qs fs
 all-renamed [] [] [] h = tt
 all-renamed (q ∷ qs) (f ∷ fs) (p ∷ ps) h = (one-renamed q f p h.0, all-renamed qs fs ps h.1)
 all-renamed [] [] (p ∷ ps) h = absurd h

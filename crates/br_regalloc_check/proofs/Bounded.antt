@@ -7,7 +7,8 @@ use Rattle.br_flatimp.specs.declared.program.Stmt.TheOpen.{Stmt-F}
 use Rattle.br_flatimp.specs.declared.program.Stmt.TheFolds.{fold-roll-Stmt, ind-Stmt}
 use Rattle.br_flatimp.specs.Values.{Names}
 use Rattle.br_flatimp.specs.Parts.{written, read, parts, test_names, operand_names, statement_names}
-use Rattle.br_flatimp.specs.Liveness.{nothing, is_in, union, without, Live, Moment, at_test, before_all, entry, live, live_step, moments}
+use Rattle.br_flatimp.specs.Liveness.{nothing, is_in, union, without, Live, Moment}
+use Rattle.br_flatimp.specs.Liveness.{at_test, before_all, entry, live, live_step, moments}
 use Rattle.br_flatimp.specs.WellFormed.{are_below}
 use Rattle.br_regalloc_check.specs.Accepted.{AreApart, MayRename}
 use Rattle.br_regalloc_check.specs.Walks.{AreApartBelow, MayRenameBelow}
@@ -30,7 +31,8 @@ abbrev FewWritten : ℕ → Moment → Type 0
 FewWritten n m = IsBounded n m.after_write
 
 abbrev Keeps : ℕ → Live → Type 0
-Keeps n l = (after : Names) → IsBounded n after → IsBounded n (l.before after) × AllByRecursion (FewWritten n) (l.moments after)
+Keeps n l =
+    (after : Names) → IsBounded n after → IsBounded n (l.before after) × AllByRecursion (FewWritten n) (l.moments after)
 
 abbrev Stays : ℕ → Stmt → Type 0
 Stays n c = IsTrue (are_below n (statement_names c)) → Keeps n (live c)
@@ -53,8 +55,10 @@ all-stay n [] below end h = (h, tt)
 all-stay n (e ∷ cs) below end h =
     let split = below-append n (statement_names e.0) (names n cs) below in
     let rest = all-stay n cs split.1 end h in
-    let one = e.1 split.0 (entry (lives n cs) end) rest.0 in
-    (one.0, all-join (FewWritten n) ((live e.0).moments (entry (lives n cs) end)) (moments (lives n cs) end) one.1 rest.1)
+    let one = e.1 split.0 (entry (lives n cs) end) rest.0 in (
+      one.0,
+      all-join (FewWritten n) ((live e.0).moments (entry (lives n cs) end)) (moments (lives n cs) end) one.1 rest.1,
+    )
 
 abbrev names_step : Stmt-F (List ℕ) → List ℕ
 names_step y = (written y ++ read y) ++ flat_map (flat_map (λ xs. xs)) (parts y)
@@ -63,7 +67,8 @@ abbrev opened : (n : ℕ) → Stmt-F (Each n) → Stmt-F Stmt
 opened n y = map-Stmt (Each n) Stmt (λ e. e.0) y
 
 abbrev StaysLayer : ℕ → Stmt-F Stmt → Type 0
-StaysLayer n y = IsTrue (are_below n (names_step (map-Stmt Stmt (List ℕ) statement_names y))) → Keeps n (live_step (map-Stmt Stmt Live live y))
+StaysLayer n y = IsTrue (are_below n (names_step (map-Stmt Stmt (List ℕ) statement_names y)))
+    → Keeps n (live_step (map-Stmt Stmt Live live y))
 
 -- a statement with no parts
 simple : (n : ℕ) (xs ys : List ℕ) (after : Names) → IsTrue (are_below n ((xs ++ ys) ++ [])) → IsBounded n after
@@ -88,7 +93,8 @@ layer-stays n (Stmt-F.If test first second) below after h =
     let two = below-append n (names n first) (names n second ++ []) own.1 in
     let a = all-stay n first two.0 after h in
     let b = all-stay n second (below-append n (names n second) [] two.1).0 after h in (
-      bounded-union n (is_in (test_names test)) (union (entry (lives n first) after) (entry (lives n second) after)) (below-in n (test_names test) own.0)
+      bounded-union n (is_in (test_names test)) (union (entry (lives n first) after) (entry (lives n second) after))
+          (below-in n (test_names test) own.0)
           (bounded-union n (entry (lives n first) after) (entry (lives n second) after) a.0 b.0),
       (h, all-join (FewWritten n) (moments (lives n first) after) (moments (lives n second) after) a.1 b.1),
     )
@@ -101,7 +107,8 @@ layer-stays n (Stmt-F.Loop first test last) below after h =
     let t : Names = at_test (lives n first) test (lives n last) after in
     let few : IsBounded n t =
     bounded-union n (is_in (test_names test)) (union after (l (f nothing))) (below-in n (test_names test) own.0)
-    (bounded-union n after (l (f nothing)) h (all-stay n last of_last (f nothing) (all-stay n first two.0 nothing (bounded-nothing n)).0).0) in
+    (bounded-union n after (l (f nothing)) h
+    (all-stay n last of_last (f nothing) (all-stay n first two.0 nothing (bounded-nothing n)).0).0) in
     let a = all-stay n first two.0 t few in
     let b = all-stay n last of_last (f t) a.0 in
     (a.0, (h, all-join (FewWritten n) (moments (lives n first) t) (moments (lives n last) (f t)) a.1 b.1))
@@ -115,7 +122,8 @@ statement-stays n = ind-Stmt (Stays n) (λ x y is below.
     subst (Keeps n) (sym (fold-roll-Stmt Live live_step x))
     (step (subst (λ xs. IsTrue (are_below n xs)) (fold-roll-Stmt (List ℕ) names_step x) below)))
 
-pub bounded-all : (n : ℕ) (cs : List Stmt) → IsTrue (are_below n (flat_map statement_names cs)) → (end : Names) → IsBounded n end
+pub bounded-all : (n : ℕ) (cs : List Stmt) → IsTrue (are_below n (flat_map statement_names cs)) → (end : Names)
+    → IsBounded n end
     → IsBounded n (before_all cs end) × AllByRecursion (FewWritten n) (moments (map live cs) end)
 bounded-all n [] below end h = (h, tt)
 bounded-all n (c ∷ cs) below end h =
@@ -126,19 +134,22 @@ bounded-all n (c ∷ cs) below end h =
 
 -- ---- below the bound and everywhere
 
-pub apart-everywhere : (n : ℕ) (to : ℕ → ℕ) (live : Names) → IsBounded n live → AreApartBelow n to live → AreApart to live
+pub apart-everywhere : (n : ℕ) (to : ℕ → ℕ) (live : Names) → IsBounded n live → AreApartBelow n to live
+    → AreApart to live
 apart-everywhere n to live few h x alive z also same = h x (few x alive) alive z (few z also) also same
 
 pub apart-below : (n : ℕ) (to : ℕ → ℕ) (live : Names) → AreApart to live → AreApartBelow n to live
 apart-below n to live h x less alive z below also same = h x alive z also same
 
-pub renames-everywhere : (n : ℕ) (to : ℕ → ℕ) (ms : List Moment) → AllByRecursion (FewWritten n) ms → AllByRecursion (MayRenameBelow n to) ms → AllByRecursion (MayRename to) ms
+pub renames-everywhere : (n : ℕ) (to : ℕ → ℕ) (ms : List Moment) → AllByRecursion (FewWritten n) ms
+    → AllByRecursion (MayRenameBelow n to) ms → AllByRecursion (MayRename to) ms
 renames-everywhere n to = all-change (FewWritten n) (MayRenameBelow n to) (MayRename to) (λ m few h. record {
   differ = h.differ;
   apart = λ x i z also same. h.apart x i z (few z also) also same;
 })
 
-pub renames-below : (n : ℕ) (to : ℕ → ℕ) (ms : List Moment) → AllByRecursion (MayRename to) ms → AllByRecursion (MayRenameBelow n to) ms
+pub renames-below : (n : ℕ) (to : ℕ → ℕ) (ms : List Moment) → AllByRecursion (MayRename to) ms
+    → AllByRecursion (MayRenameBelow n to) ms
 renames-below n to ms h = all-change (MayRename to) (MayRename to) (MayRenameBelow n to) (λ m k l. record {
   differ = k.differ;
   apart = λ x i z less also same. k.apart x i z also same;

@@ -1,6 +1,7 @@
 -- What is live in a function is live by its new names in the function that took them. So no statement there is
 -- dead where none was before.
-use Rattle.std.proofs.Common.{◌≡◌, ℕ, Bool, true, false, ◌&&◌, ◌||◌, not, IsTrue, inl, inr, List, [], ◌∷◌, ◌++◌, map, refl, sym, ap, subst, ◌∙◌}
+use Rattle.std.proofs.Common.{◌≡◌, ℕ, Bool, true, false, ◌&&◌, ◌||◌, not, IsTrue, inl}
+use Rattle.std.proofs.Common.{inr, List, [], ◌∷◌, ◌++◌, map, refl, sym, ap, subst, ◌∙◌}
 use Rattle.std.specs.List.{AllByRecursion, list_any}
 use Rattle.std.proofs.lemmas.List.Folds.{list_any-append}
 use Rattle.br_flatimp.specs.declared.program.Cond.{Cond}
@@ -13,12 +14,15 @@ use Rattle.br_flatimp.specs.declared.program.Stmt.TheViews.{roll-Stmt}
 use Rattle.br_flatimp.specs.declared.program.Stmt.TheFolds.{fold-roll-Stmt, ind-Stmt}
 use Rattle.br_flatimp.specs.Values.{Names}
 use Rattle.br_flatimp.specs.Parts.{test_names}
-use Rattle.br_flatimp.specs.Liveness.{nothing, is_in, union, without, Within, Live, Moment, at_test, entry, live, live_step, moments, is_dead, has_no_dead, has_no_dead_but_copies, function_moments}
+use Rattle.br_flatimp.specs.Liveness.{nothing, is_in, union, without, Within, Live, Moment}
+use Rattle.br_flatimp.specs.Liveness.{at_test, entry, live, live_step, moments, is_dead}
+use Rattle.br_flatimp.specs.Liveness.{has_no_dead, has_no_dead_but_copies, function_moments}
 use Rattle.br_flatimp.specs.Renaming.{IsApart, renamed, renamed_step, renamed_test}
 use Rattle.br_flatimp.proofs.Live.{pointwise-entry}
 use Rattle.br_regalloc_check.specs.Accepted.{MayRename}
 use Rattle.br_regalloc_check.specs.Assigned.{function_renamed}
-use Rattle.br_regalloc_check.proofs.Lists.{all-split, or_left, or_right, or_cases, and_both, both_and, not_of, not_from, in_map, not-in-map}
+use Rattle.br_regalloc_check.proofs.Lists.{all-split, or_left, or_right, or_cases, and_both}
+use Rattle.br_regalloc_check.proofs.Lists.{both_and, not_of, not_from, in_map, not-in-map}
 use Rattle.br_regalloc_check.proofs.Renames.{fold-renamed}
 
 -- ---- tests
@@ -140,7 +144,8 @@ module _ (copies : Bool) (to : ℕ → ℕ)
     all-quiet (e ∷ cs) a b may reaches h =
         let one = (live e.0).moments (entry (olds cs) a) in
         let split = all-split (MayRename to) one (moments (olds cs) a) may in
-        two-parts bad one (moments (olds cs) a) ((live (renamed to e.0)).moments (entry (news cs) b)) (moments (news cs) b)
+        two-parts bad one (moments (olds cs) a) ((live (renamed to e.0)).moments (entry (news cs) b))
+        (moments (news cs) b)
         (e.1.quiet (entry (olds cs) a) (entry (news cs) b) split.0 (all-reach cs a a b (λ x i. i) split.1 reaches))
         (all-quiet cs a b split.1 reaches) h
 
@@ -292,7 +297,8 @@ module _ (copies : Bool) (to : ℕ → ℕ)
 -- a count of all dead statements
 all-count : (ms : List Moment) → list_any (is_bad true) ms ≡ list_any is_dead ms
 all-count [] = refl
-all-count (m ∷ ms) = ap (λ b. b || list_any (is_bad true) ms) (and-true (is_dead m)) ∙ ap (λ b. is_dead m || b) (all-count ms)
+all-count (m ∷ ms) =
+    ap (λ b. b || list_any (is_bad true) ms) (and-true (is_dead m)) ∙ ap (λ b. is_dead m || b) (all-count ms)
   where
     and-true : (b : Bool) → (b && true) ≡ b
     and-true true = refl
@@ -313,7 +319,8 @@ module _ (to : ℕ → ℕ) (f : FlatFunc) (may : AllByRecursion (MayRename to) 
         ∙ still-quiet true (all-count (function_moments f) ∙ not_from (list_any is_dead (function_moments f)) h))
 
     -- So it is where copies are left aside.
-    pub none-dead-but-copies : IsTrue (has_no_dead_but_copies f) → IsTrue (has_no_dead_but_copies (function_renamed to f))
+    pub none-dead-but-copies : IsTrue (has_no_dead_but_copies f)
+        → IsTrue (has_no_dead_but_copies (function_renamed to f))
     none-dead-but-copies h =
         not_of (list_any (is_bad false) (function_moments (function_renamed to f)))
         (still-quiet false (not_from (list_any (is_bad false) (function_moments f)) h))

@@ -8,7 +8,8 @@ use Rattle.br_flatimp.specs.declared.program.Stmt.TheOpen.{Stmt-F}
 use Rattle.br_flatimp.specs.declared.program.Stmt.TheFolds.{fold-roll-Stmt, ind-Stmt}
 use Rattle.br_flatimp.specs.Values.{Names}
 use Rattle.br_flatimp.specs.Parts.{test_names, operand_names}
-use Rattle.br_flatimp.specs.Liveness.{is_in, union, without, Within, Live, Moment, at_test, before, before_all, entry, live, live_step, moment, moments, points}
+use Rattle.br_flatimp.specs.Liveness.{is_in, union, without, Within, Live, Moment, at_test, before}
+use Rattle.br_flatimp.specs.Liveness.{before_all, entry, live, live_step, moment, moments, points}
 use Rattle.br_flatimp.specs.Renaming.{IsApart}
 use Rattle.br_regalloc_check.specs.Accepted.{AreApart, MayRename}
 use Rattle.br_regalloc_check.proofs.Lists.{all-split, all-join, or_left, or_right, both_and, not_of}
@@ -17,7 +18,9 @@ use Rattle.br_regalloc_check.proofs.Lists.{all-split, all-join, or_left, or_righ
 abbrev pub TestHolds : Type 0
 TestHolds =
     (first : List Stmt) (test : Cond) (last : List Stmt) (after : Names) →
-    Within (union (is_in (test_names test)) (union after (before_all last (before_all first (at_test (map live first) test (map live last) after))))) (at_test (map live first) test (map live last) after)
+    Within (union (is_in (test_names test))
+    (union after (before_all last (before_all first (at_test (map live first) test (map live last) after)))))
+    (at_test (map live first) test (map live last) after)
 
 apart-within : (to : ℕ → ℕ) (small large : Names) → Within small large → AreApart to large → AreApart to small
 apart-within to small large w h x alive z also same = h x (w x alive) z (w z also) same
@@ -81,25 +84,36 @@ simple to after xs ys m h apart =
 abbrev opened : (to : ℕ → ℕ) → Stmt-F (Each to) → Stmt-F Stmt
 opened to y = map-Stmt (Each to) Stmt (λ e. e.0) y
 
-layer-keeps : (to : ℕ → ℕ) → TestHolds → (y : Stmt-F (Each to)) → Keeps to (live_step (map-Stmt Stmt Live live (opened to y)))
+layer-keeps : (to : ℕ → ℕ) → TestHolds → (y : Stmt-F (Each to))
+    → Keeps to (live_step (map-Stmt Stmt Live live (opened to y)))
 layer-keeps to law (Stmt-F.Lit x n) after h m = simple to after (x ∷ []) [] (moment (Stmt-F.Lit x n) after) h m.0.apart
-layer-keeps to law (Stmt-F.Copy x y) after h m = simple to after (x ∷ []) (y ∷ []) (moment (Stmt-F.Copy x y) after) h m.0.apart
-layer-keeps to law (Stmt-F.Op x op y z) after h m = simple to after (x ∷ []) (y ∷ operand_names z) (moment (Stmt-F.Op x op y z) after) h m.0.apart
-layer-keeps to law (Stmt-F.Load x size y offset) after h m = simple to after (x ∷ []) (y ∷ []) (moment (Stmt-F.Load x size y offset) after) h m.0.apart
-layer-keeps to law (Stmt-F.Store size y z offset) after h m = simple to after [] (y ∷ z ∷ []) (moment (Stmt-F.Store size y z offset) after) h m.0.apart
-layer-keeps to law (Stmt-F.Table x size bytes y) after h m = simple to after (x ∷ []) (y ∷ []) (moment (Stmt-F.Table x size bytes y) after) h m.0.apart
+layer-keeps to law (Stmt-F.Copy x y) after h m =
+    simple to after (x ∷ []) (y ∷ []) (moment (Stmt-F.Copy x y) after) h m.0.apart
+layer-keeps to law (Stmt-F.Op x op y z) after h m =
+    simple to after (x ∷ []) (y ∷ operand_names z) (moment (Stmt-F.Op x op y z) after) h m.0.apart
+layer-keeps to law (Stmt-F.Load x size y offset) after h m =
+    simple to after (x ∷ []) (y ∷ []) (moment (Stmt-F.Load x size y offset) after) h m.0.apart
+layer-keeps to law (Stmt-F.Store size y z offset) after h m =
+    simple to after [] (y ∷ z ∷ []) (moment (Stmt-F.Store size y z offset) after) h m.0.apart
+layer-keeps to law (Stmt-F.Table x size bytes y) after h m =
+    simple to after (x ∷ []) (y ∷ []) (moment (Stmt-F.Table x size bytes y) after) h m.0.apart
 layer-keeps to law (Stmt-F.Stackalloc x n body) after h m =
     let inside : Names = entry (lives to body) after in
-    let one = all-keep to body after (after-write to (without inside (x ∷ [])) inside (x ∷ []) (λ z k. k) h m.0.apart) m.1 in
+    let one = all-keep to body after
+    (after-write to (without inside (x ∷ [])) inside (x ∷ []) (λ z k. k) h m.0.apart) m.1 in
     ((h, (one.1, one.0)), one.1)
 layer-keeps to law (Stmt-F.If test first second) after h m =
     let tests : Names = is_in (test_names test) in
     let a : Names = entry (lives to first) after in
     let b : Names = entry (lives to second) after in
     let split = all-split (MayRename to) (moments (lives to first) after) (moments (lives to second) after) m.1 in
-    let one = all-keep to first after (apart-within to a (union tests (union a b)) (λ z k. right-in tests (union a b) z (left-in a b z k)) h) split.0 in
-    let two = all-keep to second after (apart-within to b (union tests (union a b)) (λ z k. right-in tests (union a b) z (right-in a b z k)) h) split.1 in
-    ((h, (one.1, all-join (AreApart to) (points (lives to first) after) (points (lives to second) after) one.0 two.0)), one.1)
+    let one = all-keep to first after (apart-within to a (union tests (union a b))
+    (λ z k. right-in tests (union a b) z (left-in a b z k)) h) split.0 in
+    let two = all-keep to second after (apart-within to b (union tests (union a b))
+    (λ z k. right-in tests (union a b) z (right-in a b z k)) h) split.1 in (
+      (h, (one.1, all-join (AreApart to) (points (lives to first) after) (points (lives to second) after) one.0 two.0)),
+      one.1,
+    )
 layer-keeps to law (Stmt-F.Loop first test last) after h m =
     let t : Names = at_test (lives to first) test (lives to last) after in
     let start : Names = entry (lives to first) t in
@@ -108,13 +122,26 @@ layer-keeps to law (Stmt-F.Loop first test last) after h m =
     let split = all-split (MayRename to) (moments (lives to first) t) (moments (lives to last) start) m.1 in
     let one = all-keep to first t h split.0 in
     let holds : Within (union tests (union after again)) t = law (stmts to first) test (stmts to last) after in
-    let turn = apart-within to again t (λ z k. holds z (right-in tests (union after again) z (right-in after again z k))) one.1 in
+    let turn = apart-within to again t
+    (λ z k. holds z (right-in tests (union after again) z (right-in after again z k))) one.1 in
     let two = all-keep to last start turn split.1 in
-    let out = apart-within to after t (λ z k. holds z (right-in tests (union after again) z (left-in after again z k))) one.1 in
-    ((h, (out, (one.1, all-join (AreApart to) (points (lives to first) t) (points (lives to last) start) one.0 two.0))), out)
-layer-keeps to law (Stmt-F.Call xs g ys) after h m = simple to after xs ys (moment (Stmt-F.Call xs g ys) after) h m.0.apart
-layer-keeps to law (Stmt-F.Read x y) after h m = simple to after (x ∷ []) (y ∷ []) (moment (Stmt-F.Read x y) after) h m.0.apart
-layer-keeps to law (Stmt-F.Write y z) after h m = simple to after [] (y ∷ z ∷ []) (moment (Stmt-F.Write y z) after) h m.0.apart
+    let out = apart-within to after t
+    (λ z k. holds z (right-in tests (union after again) z (left-in after again z k))) one.1 in (
+      (
+        h,
+        (
+          out,
+          (one.1, all-join (AreApart to) (points (lives to first) t) (points (lives to last) start) one.0 two.0),
+        ),
+      ),
+      out,
+    )
+layer-keeps to law (Stmt-F.Call xs g ys) after h m =
+    simple to after xs ys (moment (Stmt-F.Call xs g ys) after) h m.0.apart
+layer-keeps to law (Stmt-F.Read x y) after h m =
+    simple to after (x ∷ []) (y ∷ []) (moment (Stmt-F.Read x y) after) h m.0.apart
+layer-keeps to law (Stmt-F.Write y z) after h m =
+    simple to after [] (y ∷ z ∷ []) (moment (Stmt-F.Write y z) after) h m.0.apart
 
 statement-keeps : (to : ℕ → ℕ) → TestHolds → (c : Stmt) → Keeps to (live c)
 statement-keeps to law = ind-Stmt (λ c. Keeps to (live c)) (λ x y is.
@@ -123,13 +150,15 @@ statement-keeps to law = ind-Stmt (λ c. Keeps to (live c)) (λ x y is.
 
 -- the points of statements, from the start
 pub apart-points : (to : ℕ → ℕ) → TestHolds → (cs : List Stmt) (end : Names) → AreApart to (before_all cs end)
-    → AllByRecursion (MayRename to) (moments (map live cs) end) → AllByRecursion (AreApart to) (points (map live cs) end)
+    → AllByRecursion (MayRename to) (moments (map live cs) end)
+    → AllByRecursion (AreApart to) (points (map live cs) end)
 apart-points to law [] end h m = (h, tt)
 apart-points to law (c ∷ cs) end h m =
     let next : Names = before_all cs end in
     let split = all-split (MayRename to) ((live c).moments next) (moments (map live cs) end) m in
     let one = statement-keeps to law c next h split.0 in
-    all-join (AreApart to) ((live c).points next) (points (map live cs) end) one.0 (apart-points to law cs end one.1 split.1)
+    all-join (AreApart to) ((live c).points next) (points (map live cs) end) one.0
+    (apart-points to law cs end one.1 split.1)
 
 -- ---- the start is a point
 
@@ -137,9 +166,11 @@ abbrev StartsWith : (Names → Type 0) → Live → Type 0
 StartsWith P l = (after : Names) → AllByRecursion P (l.points after) → P (l.before after)
 
 starts : (P : Names → Type 0) (c : Stmt) → StartsWith P (live c)
-starts P = ind-Stmt (λ c. StartsWith P (live c)) (λ x y is. subst (StartsWith P) (sym (fold-roll-Stmt Live live_step x)) (λ after h. h.0))
+starts P = ind-Stmt (λ c. StartsWith P (live c))
+    (λ x y is. subst (StartsWith P) (sym (fold-roll-Stmt Live live_step x)) (λ after h. h.0))
 
-pub start-apart : (to : ℕ → ℕ) (cs : List Stmt) (end : Names) → AllByRecursion (AreApart to) (points (map live cs) end) → AreApart to (before_all cs end)
+pub start-apart : (to : ℕ → ℕ) (cs : List Stmt) (end : Names) → AllByRecursion (AreApart to) (points (map live cs) end)
+    → AreApart to (before_all cs end)
 start-apart to [] end h = h.0
 start-apart to (c ∷ cs) end h =
     let next : Names = before_all cs end in

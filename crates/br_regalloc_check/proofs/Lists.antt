@@ -1,19 +1,23 @@
 -- Facts on each element of lists in two parts, and on names that are written.
-use Rattle.std.proofs.Common.{◌≡◌, ℕ, ◌+◌, ◌<◌, Bool, true, false, ◌||◌, ◌&&◌, not, ◌==◌, IsTrue, ◌⊎◌, inl, inr, List, [], ◌∷◌, ◌++◌, map, length, get_or, drop, refl, sym, ap, subst, ◌∙◌, arith}
+use Rattle.std.proofs.Common.{◌≡◌, ℕ, ◌+◌, ◌<◌, Bool, true, false, ◌||◌, ◌&&◌, not, ◌==◌, IsTrue, ◌⊎◌, inl, inr}
+use Rattle.std.proofs.Common.{List, [], ◌∷◌, ◌++◌, map, length, get_or, drop, refl, sym, ap, subst, ◌∙◌, arith}
 use Rattle.std.specs.List.{AllByRecursion}
 use Rattle.std.proofs.lemmas.Grind.{common_steps}
 use Rattle.br_flatimp.specs.Liveness.{is_in}
 use Rattle.br_flatimp.specs.WellFormed.{all_differ}
 
-pub all-split : {X : Type 0} (P : X → Type 0) (xs ys : List X) → AllByRecursion P (xs ++ ys) → AllByRecursion P xs × AllByRecursion P ys
+pub all-split : {X : Type 0} (P : X → Type 0) (xs ys : List X) → AllByRecursion P (xs ++ ys)
+    → AllByRecursion P xs × AllByRecursion P ys
 all-split P [] ys h = (tt, h)
 all-split P (x ∷ xs) ys h = let rest = all-split P xs ys h.1 in ((h.0, rest.0), rest.1)
 
-pub all-join : {X : Type 0} (P : X → Type 0) (xs ys : List X) → AllByRecursion P xs → AllByRecursion P ys → AllByRecursion P (xs ++ ys)
+pub all-join : {X : Type 0} (P : X → Type 0) (xs ys : List X) → AllByRecursion P xs → AllByRecursion P ys
+    → AllByRecursion P (xs ++ ys)
 all-join P [] ys h k = k
 all-join P (x ∷ xs) ys h k = (h.0, all-join P xs ys h.1 k)
 
-pub all-change : {X : Type 0} (P Q R : X → Type 0) → ((x : X) → P x → Q x → R x) → (xs : List X) → AllByRecursion P xs → AllByRecursion Q xs → AllByRecursion R xs
+pub all-change : {X : Type 0} (P Q R : X → Type 0) → ((x : X) → P x → Q x → R x) → (xs : List X) → AllByRecursion P xs
+    → AllByRecursion Q xs → AllByRecursion R xs
 all-change P Q R step [] h k = tt
 all-change P Q R step (x ∷ xs) h k = (step x h.0 k.0, all-change P Q R step xs h.1 k.1)
 
@@ -66,16 +70,20 @@ in_one x y h = elim (or_cases (x == y) false h) [ inl e ↦ eq_true x y e | inr 
 pub in_map : (to : ℕ → ℕ) (xs : List ℕ) (x : ℕ) → IsTrue (is_in xs x) → IsTrue (is_in (map to xs) (to x))
 in_map to [] x h = absurd (cc h)
 in_map to (y ∷ ys) x h = elim (or_cases (y == x) (is_in ys x) h) [
-  | inl e ↦ or_left (to y == to x) (is_in (map to ys) (to x)) (let same : y ≡ x = eq_true y x e in subst (λ z. IsTrue (to y == to z)) same (eq_self (to y)))
+  | inl e ↦ or_left (to y == to x) (is_in (map to ys) (to x))
+      (let same : y ≡ x = eq_true y x e in subst (λ z. IsTrue (to y == to z)) same (eq_self (to y)))
   | inr e ↦ or_right (to y == to x) (is_in (map to ys) (to x)) (in_map to ys x e)
 ]
 
 -- a new name is that of no name in a list where the name is not there and each that gets its new name is the name
-pub not-in-map : (to : ℕ → ℕ) (xs : List ℕ) (x : ℕ) → ((w : ℕ) → IsTrue (is_in xs w) → to x ≡ to w → x ≡ w) → is_in xs x ≡ false → is_in (map to xs) (to x) ≡ false
+pub not-in-map : (to : ℕ → ℕ) (xs : List ℕ) (x : ℕ) → ((w : ℕ) → IsTrue (is_in xs w) → to x ≡ to w → x ≡ w)
+    → is_in xs x ≡ false → is_in (map to xs) (to x) ≡ false
 not-in-map to [] x apart h = refl
-not-in-map to (y ∷ ys) x apart h = by (y == x) (to y == to x) refl refl (not-in-map to ys x (λ w i. apart w (or_right (y == w) (is_in ys w) i))) h
+not-in-map to (y ∷ ys) x apart h =
+    by (y == x) (to y == to x) refl refl (not-in-map to ys x (λ w i. apart w (or_right (y == w) (is_in ys w) i))) h
   where
-    by : (a b : Bool) → (y == x) ≡ a → (to y == to x) ≡ b → (is_in ys x ≡ false → is_in (map to ys) (to x) ≡ false) → (a || is_in ys x) ≡ false
+    by : (a b : Bool) → (y == x) ≡ a → (to y == to x) ≡ b → (is_in ys x ≡ false → is_in (map to ys) (to x) ≡ false)
+        → (a || is_in ys x) ≡ false
         → (b || is_in (map to ys) (to x)) ≡ false
     by true b e f rest k = absurd (cc k)
     by false true e f rest k =
@@ -96,7 +104,8 @@ in-each P [] h = tt
 in-each P (y ∷ ys) h = (h y (in_head y ys), in-each P ys (λ x i. h x (or_right (y == x) (is_in ys x) i)))
 
 -- names whose new names differ stay apart
-pub differ-apart : (to : ℕ → ℕ) (xs : List ℕ) → IsTrue (all_differ (map to xs)) → (x z : ℕ) → IsTrue (is_in xs x) → IsTrue (is_in xs z) → to z ≡ to x → z ≡ x
+pub differ-apart : (to : ℕ → ℕ) (xs : List ℕ) → IsTrue (all_differ (map to xs)) → (x z : ℕ) → IsTrue (is_in xs x)
+    → IsTrue (is_in xs z) → to z ≡ to x → z ≡ x
 differ-apart to [] h x z i j same = absurd (cc i)
 differ-apart to (y ∷ ys) h x z i j same =
     let parts = and_both (not (is_in (map to ys) (to y))) (all_differ (map to ys)) h in

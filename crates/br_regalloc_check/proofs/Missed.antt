@@ -1,6 +1,7 @@
 -- A function with new names misses an operand only where the one that it comes from does: looking back from a
 -- statement, the literal of a name that is live there is that of its new name.
-use Rattle.std.proofs.Common.{◌≡◌, ℕ, Bool, true, false, ◌||◌, ◌==◌, not, IsTrue, if◌then◌else◌, List, [], ◌∷◌, map, None, refl, sym, ap, subst, ◌∙◌}
+use Rattle.std.proofs.Common.{◌≡◌, ℕ, Bool, true, false, ◌||◌, ◌==◌, not, IsTrue, if◌then◌else◌}
+use Rattle.std.proofs.Common.{List, [], ◌∷◌, map, None, refl, sym, ap, subst, ◌∙◌}
 use Rattle.std.specs.List.{AllByRecursion}
 use Rattle.br_flatimp.specs.declared.program.Operand.TheVariants as operand
 use Rattle.br_flatimp.specs.declared.program.FlatFunc.{FlatFunc}
@@ -9,8 +10,10 @@ use Rattle.br_flatimp.specs.declared.program.Stmt.TheOpen.{Stmt-F}
 use Rattle.br_flatimp.specs.declared.program.Stmt.TheViews.{roll-Stmt}
 use Rattle.br_flatimp.specs.declared.program.Stmt.TheFolds.{fold-roll-Stmt, ind-Stmt}
 use Rattle.br_flatimp.specs.Values.{Names}
-use Rattle.br_flatimp.specs.Liveness.{is_in, union, without, Live, Moment, at_test, entry, live, live_step, moments, function_moments}
-use Rattle.br_flatimp.specs.Missed.{Shown, literal_of, fits_literal, is_missed, misses_after, shown_step, shown, has_no_missed}
+use Rattle.br_flatimp.specs.Liveness.{is_in, union, without, Live, Moment, at_test}
+use Rattle.br_flatimp.specs.Liveness.{entry, live, live_step, moments, function_moments}
+use Rattle.br_flatimp.specs.Missed.{Shown, literal_of, fits_literal, is_missed}
+use Rattle.br_flatimp.specs.Missed.{misses_after, shown_step, shown, has_no_missed}
 use Rattle.br_flatimp.specs.Renaming.{IsApart, renamed, renamed_step}
 use Rattle.br_regalloc_check.specs.Accepted.{MayRename}
 use Rattle.br_regalloc_check.specs.Assigned.{function_renamed}

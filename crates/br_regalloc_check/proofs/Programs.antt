@@ -1,5 +1,6 @@
 -- Programs whose functions took new names are well formed and keep their sizes.
-use Rattle.std.proofs.Common.{◌≡◌, ℕ, zero, suc, ◌<◌, ◌^◌, ◌&&◌, ◌||◌, ◌==◌, not, inl, inr, IsTrue, List, [], ◌∷◌, length, refl, sym, ap, subst, ◌∙◌}
+use Rattle.std.proofs.Common.{◌≡◌, ℕ, zero, suc, ◌<◌, ◌^◌, ◌&&◌, ◌||◌, ◌==◌, not, inl, inr}
+use Rattle.std.proofs.Common.{IsTrue, List, [], ◌∷◌, length, refl, sym, ap, subst, ◌∙◌}
 use mathlib.Core.Path.{fun_ext}
 use Rattle.std.specs.Prelude.{slice_index, Bool}
 use Rattle.std.specs.List.{AllByRecursion, list_all, list_any}
@@ -11,7 +12,8 @@ use Rattle.br_flatimp.specs.declared.program.Stmt.{Stmt}
 use Rattle.br_flatimp.specs.declared.program.Stmt.TheOpen.{Stmt-F}
 use Rattle.br_flatimp.specs.Parts.{throughout}
 use Rattle.br_flatimp.specs.Sizes.{Kept, KeptFunction, function_count}
-use Rattle.br_flatimp.specs.WellFormed.{all_differ, are_below, fits, is_well_formed_statement, is_well_formed_head, is_well_formed_function, names_differ, IsWellFormed}
+use Rattle.br_flatimp.specs.WellFormed.{all_differ, are_below, fits, is_well_formed_statement}
+use Rattle.br_flatimp.specs.WellFormed.{is_well_formed_head, is_well_formed_function, names_differ, IsWellFormed}
 use Rattle.br_regalloc_check.specs.Assigned.{AreAssigned, IsAssigned, KeepLean, KeepsLean}
 use Rattle.br_regalloc_check.specs.Walks.{IsFit}
 use Rattle.br_regalloc_check.proofs.Checked.{names-below}
@@ -21,14 +23,16 @@ use Rattle.br_regalloc_check.proofs.Lists.{and_both, both_and}
 use Rattle.br_regalloc_check.proofs.Missed.{none-missed}
 use Rattle.br_regalloc_check.proofs.Renames.{bulk-renamed, kept-renamed, kept-same}
 
-pub fit-all : (gs fs : List FlatFunc) → IsTrue (list_all (is_well_formed_function gs) fs) → AllByRecursion (λ f. function_count f < 2 ^ 32) fs → AllByRecursion IsFit fs
+pub fit-all : (gs fs : List FlatFunc) → IsTrue (list_all (is_well_formed_function gs) fs)
+    → AllByRecursion (λ f. function_count f < 2 ^ 32) fs → AllByRecursion IsFit fs
 fit-all gs [] h k = tt
 fit-all gs (f ∷ fs) h k =
     let both = and_both (is_well_formed_function gs f) (list_all (is_well_formed_function gs) fs) h in
     let named = function-named gs f both.0 in
     (record { below = named.0; names = true-le f.names 1048576 named.1; count = k.0 }, fit-all gs fs both.1 k.1)
 
-pub program-parts : (fs : List FlatFunc) → IsWellFormed fs → IsTrue (names_differ fs) × IsTrue (list_all (is_well_formed_function fs) fs)
+pub program-parts : (fs : List FlatFunc) → IsWellFormed fs
+    → IsTrue (names_differ fs) × IsTrue (list_all (is_well_formed_function fs) fs)
 program-parts fs h = and_both (names_differ fs) (list_all (is_well_formed_function fs) fs) h
 
 -- ---- counts and names of functions
@@ -39,7 +43,11 @@ record Same (q f : FlatFunc) : Type 0 where
   results : length q.results ≡ length f.results
 
 same-one : (q f : FlatFunc) (p : Proposal) → IsAssigned q f p → Same q f
-same-one q f p (inl h) = subst (λ g. Same g f) (sym h.1) (record { name = refl; args = length-map f.args (slice_index p.to); results = length-map f.results (slice_index p.to) })
+same-one q f p (inl h) = subst (λ g. Same g f) (sym h.1) (record {
+  name = refl;
+  args = length-map f.args (slice_index p.to);
+  results = length-map f.results (slice_index p.to);
+})
 same-one q f p (inr h) = subst (λ g. Same g f) (sym h.1) (record { name = refl; args = refl; results = refl })
 
 pub same-counts : (qs fs : List FlatFunc) (ps : List Proposal) → AreAssigned qs fs ps → SameCounts qs fs
@@ -53,7 +61,8 @@ same-counts [] (f ∷ fs) ps h g n m = absurd h
 same-counts (q ∷ qs) [] ps h g n m = absurd h
 same-counts (q ∷ qs) (f ∷ fs) [] h g n m = absurd h
 
-any-same : (name : List ℕ) (qs fs : List FlatFunc) (ps : List Proposal) → AreAssigned qs fs ps → list_any (λ g. bytes_eq g.name name) qs ≡ list_any (λ g. bytes_eq g.name name) fs
+any-same : (name : List ℕ) (qs fs : List FlatFunc) (ps : List Proposal) → AreAssigned qs fs ps
+    → list_any (λ g. bytes_eq g.name name) qs ≡ list_any (λ g. bytes_eq g.name name) fs
 any-same name [] [] [] h = refl
 any-same name (q ∷ qs) (f ∷ fs) (p ∷ ps) h =
     ap (λ n. bytes_eq n name || list_any (λ g. bytes_eq g.name name) qs) (same-one q f p h.0).name
@@ -86,43 +95,58 @@ fits-same qs fs same n (Stmt-F.Table x size bytes y) = refl
 fits-same qs fs same n (Stmt-F.Stackalloc x k body) = refl
 fits-same qs fs same n (Stmt-F.If test first second) = refl
 fits-same qs fs same n (Stmt-F.Loop first test last) = refl
-fits-same qs fs same n (Stmt-F.Call xs g ys) = ap (λ b. are_below n xs && are_below n ys && (b && all_differ xs)) (same g (length xs) (length ys))
+fits-same qs fs same n (Stmt-F.Call xs g ys) =
+    ap (λ b. are_below n xs && are_below n ys && (b && all_differ xs)) (same g (length xs) (length ys))
 fits-same qs fs same n (Stmt-F.Read x y) = refl
 fits-same qs fs same n (Stmt-F.Write y z) = refl
 
-formed-same : (qs fs : List FlatFunc) → SameCounts qs fs → (n : ℕ) → is_well_formed_statement qs n ≡ is_well_formed_statement fs n
+formed-same : (qs fs : List FlatFunc) → SameCounts qs fs → (n : ℕ)
+    → is_well_formed_statement qs n ≡ is_well_formed_statement fs n
 formed-same qs fs same n = ap (λ (t : Stmt-F Bool → Bool). throughout t) (fun_ext (λ y. fits-same qs fs same n y))
 
-kept-formed : (qs fs : List FlatFunc) → SameCounts qs fs → (f : FlatFunc) → IsTrue (is_well_formed_function fs f) → IsTrue (is_well_formed_function qs f)
-kept-formed qs fs same f h = ap (λ (t : Stmt → Bool). is_well_formed_head f && list_all t f.body) (formed-same qs fs same f.names) ∙ h
+kept-formed : (qs fs : List FlatFunc) → SameCounts qs fs → (f : FlatFunc) → IsTrue (is_well_formed_function fs f)
+    → IsTrue (is_well_formed_function qs f)
+kept-formed qs fs same f h =
+    ap (λ (t : Stmt → Bool). is_well_formed_head f && list_all t f.body) (formed-same qs fs same f.names) ∙ h
 
-one-formed : (qs fs : List FlatFunc) → SameCounts qs fs → (q f : FlatFunc) (p : Proposal) → IsAssigned q f p → IsTrue (is_well_formed_function fs f) → IsTrue (is_well_formed_function qs q)
-one-formed qs fs same q f p (inl h) k = subst (λ g. IsTrue (is_well_formed_function qs g)) (sym h.1) (function-fine qs fs same f p.to k h.0)
-one-formed qs fs same q f p (inr h) k = subst (λ g. IsTrue (is_well_formed_function qs g)) (sym h.1) (kept-formed qs fs same f k)
+one-formed : (qs fs : List FlatFunc) → SameCounts qs fs → (q f : FlatFunc) (p : Proposal) → IsAssigned q f p
+    → IsTrue (is_well_formed_function fs f) → IsTrue (is_well_formed_function qs q)
+one-formed qs fs same q f p (inl h) k =
+    subst (λ g. IsTrue (is_well_formed_function qs g)) (sym h.1) (function-fine qs fs same f p.to k h.0)
+one-formed qs fs same q f p (inr h) k =
+    subst (λ g. IsTrue (is_well_formed_function qs g)) (sym h.1) (kept-formed qs fs same f k)
 
-all-formed : (os is : List FlatFunc) → SameCounts os is → (qs fs : List FlatFunc) (ps : List Proposal) → AreAssigned qs fs ps → IsTrue (list_all (is_well_formed_function is) fs) → IsTrue (list_all (is_well_formed_function os) qs)
+all-formed : (os is : List FlatFunc) → SameCounts os is → (qs fs : List FlatFunc) (ps : List Proposal)
+    → AreAssigned qs fs ps → IsTrue (list_all (is_well_formed_function is) fs)
+    → IsTrue (list_all (is_well_formed_function os) qs)
 all-formed os is same [] [] [] h k = refl
 all-formed os is same (q ∷ qs) (f ∷ fs) (p ∷ ps) h k =
     let both = and_both (is_well_formed_function is f) (list_all (is_well_formed_function is) fs) k in
-    both_and (is_well_formed_function os q) (list_all (is_well_formed_function os) qs) (one-formed os is same q f p h.0 both.0) (all-formed os is same qs fs ps h.1 both.1)
+    both_and (is_well_formed_function os q) (list_all (is_well_formed_function os) qs)
+    (one-formed os is same q f p h.0 both.0) (all-formed os is same qs fs ps h.1 both.1)
 all-formed os is same [] [] (p ∷ ps) h k = absurd h
 all-formed os is same [] (f ∷ fs) ps h k = absurd h
 all-formed os is same (q ∷ qs) [] ps h k = absurd h
 all-formed os is same (q ∷ qs) (f ∷ fs) [] h k = absurd h
 
-pub program-formed : (qs fs : List FlatFunc) (ps : List Proposal) → AreAssigned qs fs ps → IsWellFormed fs → IsWellFormed qs
+pub program-formed : (qs fs : List FlatFunc) (ps : List Proposal) → AreAssigned qs fs ps → IsWellFormed fs
+    → IsWellFormed qs
 program-formed qs fs ps h k =
     let parts = program-parts fs k in
-    both_and (names_differ qs) (list_all (is_well_formed_function qs) qs) (names-same qs fs ps h ∙ parts.0) (all-formed qs fs (same-counts qs fs ps h) qs fs ps h parts.1)
+    both_and (names_differ qs) (list_all (is_well_formed_function qs) qs) (names-same qs fs ps h ∙ parts.0)
+    (all-formed qs fs (same-counts qs fs ps h) qs fs ps h parts.1)
 
 -- ---- sizes
 
-one-kept : (is : List FlatFunc) (q f : FlatFunc) (p : Proposal) → IsAssigned q f p → IsTrue (is_well_formed_function is f) → KeptFunction q f
+one-kept : (is : List FlatFunc) (q f : FlatFunc) (p : Proposal) → IsAssigned q f p
+    → IsTrue (is_well_formed_function is f) → KeptFunction q f
 one-kept is q f p (inl h) k =
-    subst (λ g. KeptFunction g f) (sym h.1) (kept-renamed f p.to h.0.count h.0.below (names-below f.names f (function-named is f k).0))
+    subst (λ g. KeptFunction g f) (sym h.1)
+    (kept-renamed f p.to h.0.count h.0.below (names-below f.names f (function-named is f k).0))
 one-kept is q f p (inr h) k = subst (λ g. KeptFunction g f) (sym h.1) (kept-same f)
 
-pub all-kept : (is qs fs : List FlatFunc) (ps : List Proposal) → AreAssigned qs fs ps → IsTrue (list_all (is_well_formed_function is) fs) → Kept qs fs
+pub all-kept : (is qs fs : List FlatFunc) (ps : List Proposal) → AreAssigned qs fs ps
+    → IsTrue (list_all (is_well_formed_function is) fs) → Kept qs fs
 all-kept is [] [] [] h k = tt
 all-kept is (q ∷ qs) (f ∷ fs) (p ∷ ps) h k =
     let both = and_both (is_well_formed_function is f) (list_all (is_well_formed_function is) fs) k in

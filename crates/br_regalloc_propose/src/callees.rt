@@ -57,8 +57,8 @@ impl Calls {
         }
     }
 
-    /// The numbers of the functions, callees first. Of functions that call themselves, which no program
-    /// of a source text has, each stands somewhere.
+    /// The numbers of the functions, callees first. Of functions that call themselves, which no
+    /// program of a source text has, each stands somewhere.
     pub(crate) fn in_order(&mut self, alloc: Global) -> Result<Vec<u32>, NoMemory> {
         let mut order = Vec::new(alloc);
         self.add_open(&mut order, false)?;

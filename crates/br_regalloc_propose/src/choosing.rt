@@ -15,9 +15,9 @@ const BEYOND: u32 = 15;
 // What a register costs before anything is known of it.
 const PLAIN: u32 = 1_000_000_000;
 
-// What counts against a register, and for one: a word that is saved in each call that the name outlasts,
-// a register that the function does not change yet, a copy that another name would be spared, and a copy
-// that this name is spared surely or maybe.
+// What counts against a register, and for one: a word that is saved in each call that the name
+// outlasts, a register that the function does not change yet, a copy that another name would be
+// spared, and a copy that this name is spared surely or maybe.
 const CHANGED_BY_CALL: u32 = 8;
 
 const NEW: u32 = 3;
@@ -57,8 +57,9 @@ impl Points {
         }
     }
 
-    /// The cheapest register for a name, where others have theirs already; the name itself, where no
-    /// register is free. Of a function that is called each register that it changes may have to be saved.
+    /// The cheapest register for a name, where others have theirs already; the name
+    /// itself, where no register is free. Of a function that is called each register
+    /// that it changes may have to be saved.
     pub(crate) fn choose(&self, x: u32, to: &[u32], is_called: bool) -> u32 {
         let at = x as usize;
         if at >= self.names.len() {
@@ -82,8 +83,8 @@ impl Points {
         best
     }
 
-    /// The lowest of 32 numbers from one on that no name beside a name has, or better that of a name
-    /// which it is copied from or to; the greatest word, where all of them are taken.
+    /// The lowest of 32 numbers from one on that no name beside a name has, or better that of a
+    /// name which it is copied from or to; the greatest word, where all of them are taken.
     pub(crate) fn choose_number(&self, x: u32, to: &[u32], from: u32) -> u32 {
         let at = x as usize;
         if at >= self.names.len() {

@@ -26,7 +26,8 @@ pub(crate) fn colors_of(
     Ok(to)
 }
 
-// The number of the name that is copied into this one, where it is free, or else the first free one.
+// The number of the name that is copied into this one, where
+// it is free, or else the first free one.
 fn free_color(spans: &[Span], to: &[u32], colors: &[u32], s: Span) -> u32 {
     let like = s.like as usize;
     if like < spans.len() && like < to.len() {

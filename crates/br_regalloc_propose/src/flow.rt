@@ -71,9 +71,10 @@ impl Flow {
     }
 }
 
-/// For each loop in statements of a function with so many names what a turn may read that begins after
-/// the test: its last part, and then its first. The turn of a loop stands after those of the loops in
-/// it, of which those in its last part stand first, and the loops of a list stand in their order.
+/// For each loop in statements of a function with so many names what a turn may read that
+/// begins after the test: its last part, and then its first. The turn of a loop stands
+/// after those of the loops in it, of which those in its last part stand first, and the
+/// loops of a list stand in their order.
 pub(crate) fn turns_of(alloc: Global, names: u32, body: &[Stmt]) -> Result<Vec<NameSet>, NoMemory> {
     let mut turns = Vec::new(alloc);
     let mut flow = Flow::new(alloc, names)?;

@@ -70,8 +70,8 @@ pub(crate) struct Points {
     pub(crate) halves: Vec<Half>,
     /// The registers that the function changes, as far as they are known.
     pub(crate) changed: u32,
-    /// More names are live at a point than may be, or there are too many places; then nothing else is
-    /// known.
+    /// More names are live at a point than may be, or there are too
+    /// many places; then nothing else is known.
     pub(crate) is_full: bool,
     turns: Vec<NameSet>,
     weight: u32,
@@ -90,8 +90,9 @@ pub(crate) fn contains(set: u32, r: u32) -> bool {
 }
 
 impl Points {
-    /// Those of a function, where it is known what the calls of each function change. The names below
-    /// `fixed`, which is 0 or 32, are registers, and at most so many names may be live at a point.
+    /// Those of a function, where it is known what the calls of each function
+    /// change. The names below `fixed`, which is 0 or 32, are registers, and at most
+    /// so many names may be live at a point.
     pub(crate) fn new(
         alloc: Global,
         f: &FlatFunc,

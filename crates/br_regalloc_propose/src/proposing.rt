@@ -20,10 +20,11 @@ const NONE: u32 = u32::MAX;
 const BLOCKS: u32 = 4;
 
 /// New names for a function, from 0 on: names that are live at no point together may share one. The
-/// heaviest names get the lowest, and a name that of another that it is copied from or to where it can.
-/// Nothing is promised of them. The 128 lowest are given by the points where names are live, a few steps
-/// for each name at each point and each 32 numbers; the others, and all of a function with more than
-/// 4,194,304 places of names at points, by the first and the last place of a name in the text.
+/// heaviest names get the lowest, and a name that of another that it is copied from or to
+/// where it can. Nothing is promised of them. The 128 lowest are given by the points where
+/// names are live, a few steps for each name at each point and each 32 numbers; the others,
+/// and all of a function with more than 4,194,304 places of names at points, by the first and
+/// the last place of a name in the text.
 pub fn propose(alloc: Global, f: &FlatFunc) -> Result<Proposal, NoMemory>
     requires { IsTrue (are_below f.now.names (function_names f.now)) }
 {
@@ -66,7 +67,8 @@ fn number_each(
     Ok(rest)
 }
 
-// Gives numbers from one on to the names that have none and are in use, and 0 to those that are not.
+// Gives numbers from one on to the names that have none and
+// are in use, and 0 to those that are not.
 fn number_rest(alloc: Global, f: &FlatFunc, to: &mut Vec<u32>, from: u32) -> Result<(), NoMemory> {
     let spans = spans_of(alloc, f)?;
     let order = unnumbered(alloc, spans.as_slice(), to.as_slice())?;

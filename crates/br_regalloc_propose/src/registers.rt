@@ -19,16 +19,16 @@ struct Given {
 }
 
 /// Registers for the names of each function, for programs in which the names below 32 are registers
-/// already. A name from 32 on gets a register from 3 to 31 that no name has beside it at any point; one
-/// for which none is left, and each name of a function with more than 29 names live at a point, keeps its
-/// number. Nothing is promised of them.
+/// already. A name from 32 on gets a register from 3 to 31 that no name has beside it at any point;
+/// one for which none is left, and each name of a function with more than 29 names live at a point,
+/// keeps its number. Nothing is promised of them.
 ///
-/// Callees come first, so that a name that outlasts a call can keep out of what the callee changes. The
-/// names of a function get their registers in the order of their weight, and where these do not
-/// suffice in the order of the text: where it can a name gets the register of a name that it is copied
-/// from or to, and else the one that costs least. It takes a few steps for each name that is live at each
-/// point, of which there are at most 29, and for each 32 names at each point one more; and eight bytes
-/// of memory for each name that is live at a point.
+/// Callees come first, so that a name that outlasts a call can keep out of what the callee changes.
+/// The names of a function get their registers in the order of their weight, and where these do not
+/// suffice in the order of the text: where it can a name gets the register of a name that it is
+/// copied from or to, and else the one that costs least. It takes a few steps for each name that is
+/// live at each point, of which there are at most 29, and for each 32 names at each point one more;
+/// and eight bytes of memory for each name that is live at a point.
 pub fn propose_registers(alloc: Global, p: &FlatProgram) -> Result<Vec<Proposal>, NoMemory>
     ensures { IfOk result (λ ps. length ps.items ≡ length p.now.funcs) }
 {

@@ -4,8 +4,8 @@ use br_base::NoMemory;
 use br_flatimp::{Cond, FlatFunc, Operand, Stmt};
 use std::alloc::Global;
 
-/// Where a name is in use: from its first place to its last, where a statement reads at one place and
-/// writes at the next.
+/// Where a name is in use: from its first place to its last, where a statement reads
+/// at one place and writes at the next.
 #[derive(Clone, Copy)]
 pub(crate) struct Span {
     pub(crate) first: u32,

@@ -1,11 +1,13 @@
 -- Each instruction whose fields are in range is one word, and no word is two instructions.
-use Rattle.std.proofs.Common.{◌≡◌, ℕ, ◌^◌, ◌<◌, ◌∙◌, ap, refl, arith, ℤ, lit<, Bool, true, false, cond, List, [], ◌∷◌, eqb-true, subst}
+use Rattle.std.proofs.Common.{◌≡◌, ℕ, ◌^◌, ◌<◌, ◌∙◌, ap, refl, arith, ℤ, lit<, Bool}
+use Rattle.std.proofs.Common.{true, false, cond, List, [], ◌∷◌, eqb-true, subst}
 use Rattle.std.specs.Prelude.{Option, None, Some, ◌==◌, ◌&&◌, if◌then◌else◌, IfSome}
 use Rattle.std.specs.List.{find}
 use Rattle.std.specs.Option.{option_map, option_or}
 use Rattle.std.proofs.lemmas.Bool.Decides.{nat_tests}
 use Rattle.br_rv32im.specs.declared.instruction.Ins.{Ins}
-use Rattle.br_rv32im.specs.declared.instruction.Ins.TheVariants.{Upper, Jal, Jalr, Branch, Load, Store, Imm, Shift, Reg, Ecall}
+use Rattle.br_rv32im.specs.declared.instruction.Ins.TheVariants.{Upper, Jal, Jalr, Branch, Load}
+use Rattle.br_rv32im.specs.declared.instruction.Ins.TheVariants.{Store, Imm, Shift, Reg, Ecall}
 use Rattle.br_rv32im.specs.declared.instruction.BranchOp.{BranchOp}
 use Rattle.br_rv32im.specs.declared.instruction.BranchOp.TheVariants.{Beq, Bne, Blt, Bge, Bltu, Bgeu}
 use Rattle.br_rv32im.specs.declared.instruction.ImmOp.{ImmOp}
@@ -13,17 +15,24 @@ use Rattle.br_rv32im.specs.declared.instruction.ImmOp.TheVariants.{Addi, Slti, S
 use Rattle.br_rv32im.specs.declared.instruction.LoadOp.{LoadOp}
 use Rattle.br_rv32im.specs.declared.instruction.LoadOp.TheVariants.{Lb, Lh, Lw, Lbu, Lhu}
 use Rattle.br_rv32im.specs.declared.instruction.RegOp.{RegOp}
-use Rattle.br_rv32im.specs.declared.instruction.RegOp.TheVariants.{Add, Sub, Sll, Slt, Sltu, Xor, Srl, Sra, Or, And, Mul, Mulh, Mulhsu, Mulhu, Div, Divu, Rem, Remu}
+use Rattle.br_rv32im.specs.declared.instruction.RegOp.TheVariants.{Add, Sub, Sll, Slt, Sltu, Xor, Srl, Sra, Or, And}
+use Rattle.br_rv32im.specs.declared.instruction.RegOp.TheVariants.{Mul, Mulh, Mulhsu, Mulhu, Div, Divu, Rem, Remu}
 use Rattle.br_rv32im.specs.declared.instruction.ShiftOp.{ShiftOp}
 use Rattle.br_rv32im.specs.declared.instruction.ShiftOp.TheVariants.{Slli, Srli, Srai}
 use Rattle.br_rv32im.specs.declared.instruction.StoreOp.{StoreOp}
 use Rattle.br_rv32im.specs.declared.instruction.StoreOp.TheVariants.{Sb, Sh, Sw}
 use Rattle.br_rv32im.specs.declared.instruction.UpperOp.{UpperOp}
 use Rattle.br_rv32im.specs.declared.instruction.UpperOp.TheVariants.{Lui, Auipc}
-use Rattle.br_rv32im.specs.Codes.{opcode_of_upper, opcode_jal, opcode_jalr, opcode_branch, opcode_load, opcode_store, opcode_imm, opcode_reg, word_of_ecall, funct3_of_jalr, funct3_of_branch, funct3_of_load, funct3_of_store, funct3_of_imm, funct3_of_shift, funct7_of_shift, funct3_of_reg, funct7_of_reg, branch_coded, load_coded, store_coded, imm_coded, shift_coded, reg_coded, branches, loads, stores, imms, shifts, regs}
-use Rattle.br_rv32im.specs.Row.{opcode, rd, funct3, rs1, rs2, funct7, shamt, imm_i, imm_s, imm_b, imm_u, imm_j, branch_row, load_row, store_row, imm_row, reg_row, row_of}
+use Rattle.br_rv32im.specs.Codes.{opcode_of_upper, opcode_jal, opcode_jalr, opcode_branch, opcode_load, opcode_store}
+use Rattle.br_rv32im.specs.Codes.{opcode_imm, opcode_reg, word_of_ecall, funct3_of_jalr, funct3_of_branch}
+use Rattle.br_rv32im.specs.Codes.{funct3_of_load, funct3_of_store, funct3_of_imm, funct3_of_shift, funct7_of_shift}
+use Rattle.br_rv32im.specs.Codes.{funct3_of_reg, funct7_of_reg, branch_coded, load_coded, store_coded, imm_coded}
+use Rattle.br_rv32im.specs.Codes.{shift_coded, reg_coded, branches, loads, stores, imms, shifts, regs}
+use Rattle.br_rv32im.specs.Row.{opcode, rd, funct3, rs1, rs2, funct7, shamt, imm_i, imm_s, imm_b, imm_u}
+use Rattle.br_rv32im.specs.Row.{imm_j, branch_row, load_row, store_row, imm_row, reg_row, row_of}
 use Rattle.br_rv32im.specs.Encoding.{word_of, Fits}
-use Rattle.br_rv32im.proofs.Words.{fields-r, fields-i, fields-s, fields-b, fields-u, fields-j, made-r, made-i, made-s, made-b, made-u, made-j}
+use Rattle.br_rv32im.proofs.Words.{fields-r, fields-i, fields-s, fields-b, fields-u}
+use Rattle.br_rv32im.proofs.Words.{fields-j, made-r, made-i, made-s, made-b, made-u, made-j}
 
 -- ---- the row of a word with a given opcode
 
@@ -39,7 +48,8 @@ row-jal : (w : ℕ) → opcode w ≡ opcode_jal → row_of w ≡ Some (Jal (rd w
 unfolding row_of
 row-jal w h = rw h
 
-row-jalr : (w : ℕ) → opcode w ≡ opcode_jalr → funct3 w ≡ funct3_of_jalr → row_of w ≡ Some (Jalr (rd w) (rs1 w) (imm_i w))
+row-jalr : (w : ℕ) → opcode w ≡ opcode_jalr → funct3 w ≡ funct3_of_jalr
+    → row_of w ≡ Some (Jalr (rd w) (rs1 w) (imm_i w))
 unfolding row_of
 row-jalr w h f = rw (h, f)
 
@@ -180,42 +190,49 @@ reg-lt Remu = (lit< tt, lit< tt)
 
 -- ---- the row of the word that an instruction is
 
-branch-from : (w : ℕ) (o : BranchOp) (d e : ℕ) (z : ℤ) → funct3 w ≡ funct3_of_branch o → rs1 w ≡ d → rs2 w ≡ e → imm_b w ≡ z → branch_row w ≡ Some (Branch o d e z)
+branch-from : (w : ℕ) (o : BranchOp) (d e : ℕ) (z : ℤ) → funct3 w ≡ funct3_of_branch o → rs1 w ≡ d → rs2 w ≡ e
+    → imm_b w ≡ z → branch_row w ≡ Some (Branch o d e z)
 branch-from w o d e z f hd he hz =
     ap (λ (x : ℕ). option_map (λ p. Branch p (rs1 w) (rs2 w) (imm_b w)) (branch_coded x)) f
     ∙ ap (option_map (λ p. Branch p (rs1 w) (rs2 w) (imm_b w))) (branch-coded o)
     ∙ cc
 
-load-from : (w : ℕ) (o : LoadOp) (c d : ℕ) (z : ℤ) → funct3 w ≡ funct3_of_load o → rd w ≡ c → rs1 w ≡ d → imm_i w ≡ z → load_row w ≡ Some (Load o c d z)
+load-from : (w : ℕ) (o : LoadOp) (c d : ℕ) (z : ℤ) → funct3 w ≡ funct3_of_load o → rd w ≡ c → rs1 w ≡ d → imm_i w ≡ z
+    → load_row w ≡ Some (Load o c d z)
 load-from w o c d z f hc hd hz =
     ap (λ (x : ℕ). option_map (λ p. Load p (rd w) (rs1 w) (imm_i w)) (load_coded x)) f
     ∙ ap (option_map (λ p. Load p (rd w) (rs1 w) (imm_i w))) (load-coded o)
     ∙ cc
 
-store-from : (w : ℕ) (o : StoreOp) (d e : ℕ) (z : ℤ) → funct3 w ≡ funct3_of_store o → rs1 w ≡ d → rs2 w ≡ e → imm_s w ≡ z → store_row w ≡ Some (Store o d e z)
+store-from : (w : ℕ) (o : StoreOp) (d e : ℕ) (z : ℤ) → funct3 w ≡ funct3_of_store o → rs1 w ≡ d → rs2 w ≡ e
+    → imm_s w ≡ z → store_row w ≡ Some (Store o d e z)
 store-from w o d e z f hd he hz =
     ap (λ (x : ℕ). option_map (λ p. Store p (rs1 w) (rs2 w) (imm_s w)) (store_coded x)) f
     ∙ ap (option_map (λ p. Store p (rs1 w) (rs2 w) (imm_s w))) (store-coded o)
     ∙ cc
 
-imm-from : (w : ℕ) (o : ImmOp) (c d : ℕ) (z : ℤ) → funct3 w ≡ funct3_of_imm o → rd w ≡ c → rs1 w ≡ d → imm_i w ≡ z → imm_row w ≡ Some (Imm o c d z)
+imm-from : (w : ℕ) (o : ImmOp) (c d : ℕ) (z : ℤ) → funct3 w ≡ funct3_of_imm o → rd w ≡ c → rs1 w ≡ d → imm_i w ≡ z
+    → imm_row w ≡ Some (Imm o c d z)
 imm-from w o c d z f hc hd hz =
     let found : imm_coded (funct3 w) ≡ Some o = ap imm_coded f ∙ imm-coded o in
     let row : Option Ins → Option Ins =
     λ r. option_or r (option_map (λ p. Shift p (rd w) (rs1 w) (shamt w)) (shift_coded (funct3 w) (funct7 w))) in
     ap (λ (r : Option ImmOp). row (option_map (λ p. Imm p (rd w) (rs1 w) (imm_i w)) r)) found ∙ cc
 
-shift-from : (w : ℕ) (o : ShiftOp) (c d e : ℕ) → funct3 w ≡ funct3_of_shift o → funct7 w ≡ funct7_of_shift o → rd w ≡ c → rs1 w ≡ d → shamt w ≡ e → imm_row w ≡ Some (Shift o c d e)
+shift-from : (w : ℕ) (o : ShiftOp) (c d e : ℕ) → funct3 w ≡ funct3_of_shift o → funct7 w ≡ funct7_of_shift o → rd w ≡ c
+    → rs1 w ≡ d → shamt w ≡ e → imm_row w ≡ Some (Shift o c d e)
 shift-from w o c d e f g hc hd he =
     let none : imm_coded (funct3 w) ≡ None = ap imm_coded f ∙ no-imm-coded o in
     let found : shift_coded (funct3 w) (funct7 w) ≡ Some o =
     ap (λ (x : ℕ). shift_coded x (funct7 w)) f ∙ ap (shift_coded (funct3_of_shift o)) g ∙ shift-coded o in
     let shift : Option ShiftOp → Option Ins = λ r. option_map (λ p. Shift p (rd w) (rs1 w) (shamt w)) r in
-    ap (λ (r : Option ImmOp). option_or (option_map (λ p. Imm p (rd w) (rs1 w) (imm_i w)) r) (shift (shift_coded (funct3 w) (funct7 w)))) none
+    ap (λ (r : Option ImmOp).
+    option_or (option_map (λ p. Imm p (rd w) (rs1 w) (imm_i w)) r) (shift (shift_coded (funct3 w) (funct7 w)))) none
     ∙ ap shift found
     ∙ cc
 
-reg-from : (w : ℕ) (o : RegOp) (c d e : ℕ) → funct3 w ≡ funct3_of_reg o → funct7 w ≡ funct7_of_reg o → rd w ≡ c → rs1 w ≡ d → rs2 w ≡ e → reg_row w ≡ Some (Reg o c d e)
+reg-from : (w : ℕ) (o : RegOp) (c d e : ℕ) → funct3 w ≡ funct3_of_reg o → funct7 w ≡ funct7_of_reg o → rd w ≡ c
+    → rs1 w ≡ d → rs2 w ≡ e → reg_row w ≡ Some (Reg o c d e)
 reg-from w o c d e f g hc hd he =
     let found : reg_coded (funct3 w) (funct7 w) ≡ Some o =
     ap (λ (x : ℕ). reg_coded x (funct7 w)) f ∙ ap (reg_coded (funct3_of_reg o)) g ∙ reg-coded o in
@@ -260,11 +277,13 @@ row_of-word_of Ecall h = (refl, lit< tt)
 -- ---- the instruction that a word is has that word
 
 -- what holds of the instruction that a row gives
-if_some : (b : Bool) (x y : Option Ins) (P : Ins → Type 0) → (b ≡ true → IfSome x P) → (b ≡ false → IfSome y P) → IfSome (if b then x else y) P
+if_some : (b : Bool) (x y : Option Ins) (P : Ins → Type 0) → (b ≡ true → IfSome x P) → (b ≡ false → IfSome y P)
+    → IfSome (if b then x else y) P
 if_some true x y P f g = f refl
 if_some false x y P f g = g refl
 
-map_some : {A : Type 0} (f : A → Ins) (o : Option A) (P : Ins → Type 0) → ((a : A) → o ≡ Some a → P (f a)) → IfSome (option_map f o) P
+map_some : {A : Type 0} (f : A → Ins) (o : Option A) (P : Ins → Type 0) → ((a : A) → o ≡ Some a → P (f a))
+    → IfSome (option_map f o) P
 map_some f None P h = tt
 map_some f (Some a) P h = h a refl
 
@@ -341,7 +360,8 @@ jal-is : (w : ℕ) → w < 2 ^ 32 → opcode w ≡ opcode_jal → IsRow w (Jal (
 unfolding word_of IsRow
 jal-is w h e = let m = made-j w h in ((m.1, m.2, m.3), m.0 ∙ cc)
 
-jalr-is : (w : ℕ) → w < 2 ^ 32 → opcode w ≡ opcode_jalr → funct3 w ≡ funct3_of_jalr → IsRow w (Jalr (rd w) (rs1 w) (imm_i w))
+jalr-is : (w : ℕ) → w < 2 ^ 32 → opcode w ≡ opcode_jalr → funct3 w ≡ funct3_of_jalr
+    → IsRow w (Jalr (rd w) (rs1 w) (imm_i w))
 unfolding word_of IsRow
 jalr-is w h e f = let m = made-i w h in ((m.1, m.2, m.3), m.0 ∙ cc)
 

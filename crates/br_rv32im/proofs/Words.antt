@@ -65,17 +65,20 @@ signed-even_21 x h e = grind (arith, ints)
 
 -- ---- the fields, by format
 
-pub fields-r : (o a b c d e : ℕ) → o < 128 → a < 8 → b < 128 → c < 32 → d < 32 → e < 32 → let w = r_word o a b c d e in (opcode w ≡ o) × (funct3 w ≡ a) × (funct7 w ≡ b) × (rd w ≡ c) × (rs1 w ≡ d) × (rs2 w ≡ e) × (w < 2 ^ 32)
+pub fields-r : (o a b c d e : ℕ) → o < 128 → a < 8 → b < 128 → c < 32 → d < 32 → e < 32 → let w = r_word o a b c d e in
+    (opcode w ≡ o) × (funct3 w ≡ a) × (funct7 w ≡ b) × (rd w ≡ c) × (rs1 w ≡ d) × (rs2 w ≡ e) × (w < 2 ^ 32)
 fields-r o a b c d e ho ha hb hc hd he =
     (omega arith, omega arith, omega arith, omega arith, omega arith, omega arith, omega arith)
 
-pub fields-i : (o a c d : ℕ) (z : ℤ) → o < 128 → a < 8 → c < 32 → d < 32 → FitsSignedBits 12 z → let w = i_word o a c d z in (opcode w ≡ o) × (funct3 w ≡ a) × (rd w ≡ c) × (rs1 w ≡ d) × (imm_i w ≡ z) × (w < 2 ^ 32)
+pub fields-i : (o a c d : ℕ) (z : ℤ) → o < 128 → a < 8 → c < 32 → d < 32 → FitsSignedBits 12 z → let w =
+    i_word o a c d z in (opcode w ≡ o) × (funct3 w ≡ a) × (rd w ≡ c) × (rs1 w ≡ d) × (imm_i w ≡ z) × (w < 2 ^ 32)
 fields-i o a c d z ho ha hc hd f =
     let l = low-lt_12 z in
     let e : field 31 20 (i_word o a c d z) ≡ low_bits 12 z = omega arith in
     (omega arith, omega arith, omega arith, omega arith, ap (signed_bits 12) e ∙ signed-low_12 z f, omega arith)
 
-pub fields-s : (o a d e : ℕ) (z : ℤ) → o < 128 → a < 8 → d < 32 → e < 32 → FitsSignedBits 12 z → let w = s_word o a d e z in (opcode w ≡ o) × (funct3 w ≡ a) × (rs1 w ≡ d) × (rs2 w ≡ e) × (imm_s w ≡ z) × (w < 2 ^ 32)
+pub fields-s : (o a d e : ℕ) (z : ℤ) → o < 128 → a < 8 → d < 32 → e < 32 → FitsSignedBits 12 z → let w =
+    s_word o a d e z in (opcode w ≡ o) × (funct3 w ≡ a) × (rs1 w ≡ d) × (rs2 w ≡ e) × (imm_s w ≡ z) × (w < 2 ^ 32)
 fields-s o a d e z ho ha hd he f =
     let l = low-lt_12 z in
     let b : field 31 25 (s_word o a d e z) * 2 ^ 5 + field 11 7 (s_word o a d e z) ≡ low_bits 12 z = omega arith in
@@ -85,7 +88,8 @@ fields-s o a d e z ho ha hd he f =
 parts_of_b : ℕ → ℕ
 parts_of_b w = field 31 31 w * 2 ^ 12 + field 7 7 w * 2 ^ 11 + field 30 25 w * 2 ^ 5 + field 11 8 w * 2
 
-pub fields-b : (o a d e : ℕ) (z : ℤ) → o < 128 → a < 8 → d < 32 → e < 32 → FitsSignedBits 13 z → IsEven z → let w = b_word o a d e z in (opcode w ≡ o) × (funct3 w ≡ a) × (rs1 w ≡ d) × (rs2 w ≡ e) × (imm_b w ≡ z) × (w < 2 ^ 32)
+pub fields-b : (o a d e : ℕ) (z : ℤ) → o < 128 → a < 8 → d < 32 → e < 32 → FitsSignedBits 13 z → IsEven z → let w =
+    b_word o a d e z in (opcode w ≡ o) × (funct3 w ≡ a) × (rs1 w ≡ d) × (rs2 w ≡ e) × (imm_b w ≡ z) × (w < 2 ^ 32)
 unfolding parts_of_b
 fields-b o a d e z ho ha hd he f v =
     let l = low-lt_13 z in
@@ -93,14 +97,16 @@ fields-b o a d e z ho ha hd he f v =
     let b : parts_of_b (b_word o a d e z) ≡ low_bits 13 z = omega arith in
     (omega arith, omega arith, omega arith, omega arith, ap (signed_bits 13) b ∙ signed-low_13 z f, omega arith)
 
-pub fields-u : (o c x : ℕ) → o < 128 → c < 32 → x < 2 ^ 20 → let w = u_word o c x in (opcode w ≡ o) × (rd w ≡ c) × (imm_u w ≡ x) × (w < 2 ^ 32)
+pub fields-u : (o c x : ℕ) → o < 128 → c < 32 → x < 2 ^ 20 → let w = u_word o c x in
+    (opcode w ≡ o) × (rd w ≡ c) × (imm_u w ≡ x) × (w < 2 ^ 32)
 fields-u o c x ho hc hx = (omega arith, omega arith, omega arith, omega arith)
 
 -- what the fields of an immediate of 21 bits are put together to
 parts_of_j : ℕ → ℕ
 parts_of_j w = field 31 31 w * 2 ^ 20 + field 19 12 w * 2 ^ 12 + field 20 20 w * 2 ^ 11 + field 30 21 w * 2
 
-pub fields-j : (o c : ℕ) (z : ℤ) → o < 128 → c < 32 → FitsSignedBits 21 z → IsEven z → let w = j_word o c z in (opcode w ≡ o) × (rd w ≡ c) × (imm_j w ≡ z) × (w < 2 ^ 32)
+pub fields-j : (o c : ℕ) (z : ℤ) → o < 128 → c < 32 → FitsSignedBits 21 z → IsEven z → let w = j_word o c z in
+    (opcode w ≡ o) × (rd w ≡ c) × (imm_j w ≡ z) × (w < 2 ^ 32)
 unfolding parts_of_j
 fields-j o c z ho hc f v =
     let l = low-lt_21 z in
@@ -110,22 +116,26 @@ fields-j o c z ho hc f v =
 
 -- ---- a word is made of its fields
 
-pub made-r : (w : ℕ) → w < 2 ^ 32 → (w ≡ r_word (opcode w) (funct3 w) (funct7 w) (rd w) (rs1 w) (rs2 w)) × (rd w < 32) × (rs1 w < 32) × (rs2 w < 32)
+pub made-r : (w : ℕ) → w < 2 ^ 32
+    → (w ≡ r_word (opcode w) (funct3 w) (funct7 w) (rd w) (rs1 w) (rs2 w)) × (rd w < 32) × (rs1 w < 32) × (rs2 w < 32)
 made-r w h = (omega arith, omega arith, omega arith, omega arith)
 
-pub made-i : (w : ℕ) → w < 2 ^ 32 → (w ≡ i_word (opcode w) (funct3 w) (rd w) (rs1 w) (imm_i w)) × (rd w < 32) × (rs1 w < 32) × FitsSignedBits 12 (imm_i w)
+pub made-i : (w : ℕ) → w < 2 ^ 32 → (w ≡ i_word (opcode w) (funct3 w) (rd w) (rs1 w) (imm_i w)) × (rd w < 32)
+    × (rs1 w < 32) × FitsSignedBits 12 (imm_i w)
 made-i w h =
     let l : field 31 20 w < 2 ^ 12 = omega arith in
     let e = low-signed_12 (field 31 20 w) l in
     (rw e (omega arith), omega arith, omega arith, signed-fits_12 (field 31 20 w) l)
 
-pub made-s : (w : ℕ) → w < 2 ^ 32 → (w ≡ s_word (opcode w) (funct3 w) (rs1 w) (rs2 w) (imm_s w)) × (rs1 w < 32) × (rs2 w < 32) × FitsSignedBits 12 (imm_s w)
+pub made-s : (w : ℕ) → w < 2 ^ 32 → (w ≡ s_word (opcode w) (funct3 w) (rs1 w) (rs2 w) (imm_s w)) × (rs1 w < 32)
+    × (rs2 w < 32) × FitsSignedBits 12 (imm_s w)
 made-s w h =
     let l : field 31 25 w * 2 ^ 5 + field 11 7 w < 2 ^ 12 = omega arith in
     let e = low-signed_12 (field 31 25 w * 2 ^ 5 + field 11 7 w) l in
     (rw e (omega arith), omega arith, omega arith, signed-fits_12 _ l)
 
-pub made-b : (w : ℕ) → w < 2 ^ 32 → (w ≡ b_word (opcode w) (funct3 w) (rs1 w) (rs2 w) (imm_b w)) × (rs1 w < 32) × (rs2 w < 32) × FitsSignedBits 13 (imm_b w) × IsEven (imm_b w)
+pub made-b : (w : ℕ) → w < 2 ^ 32 → (w ≡ b_word (opcode w) (funct3 w) (rs1 w) (rs2 w) (imm_b w)) × (rs1 w < 32)
+    × (rs2 w < 32) × FitsSignedBits 13 (imm_b w) × IsEven (imm_b w)
 unfolding parts_of_b
 made-b w h =
     let l : parts_of_b w < 2 ^ 13 = omega arith in
@@ -136,7 +146,8 @@ made-b w h =
 pub made-u : (w : ℕ) → w < 2 ^ 32 → (w ≡ u_word (opcode w) (rd w) (imm_u w)) × (rd w < 32) × (imm_u w < 2 ^ 20)
 made-u w h = (omega arith, omega arith, omega arith)
 
-pub made-j : (w : ℕ) → w < 2 ^ 32 → (w ≡ j_word (opcode w) (rd w) (imm_j w)) × (rd w < 32) × FitsSignedBits 21 (imm_j w) × IsEven (imm_j w)
+pub made-j : (w : ℕ) → w < 2 ^ 32
+    → (w ≡ j_word (opcode w) (rd w) (imm_j w)) × (rd w < 32) × FitsSignedBits 21 (imm_j w) × IsEven (imm_j w)
 unfolding parts_of_j
 made-j w h =
     let l : parts_of_j w < 2 ^ 21 = omega arith in

@@ -1,10 +1,16 @@
 -- The word that an instruction is, and the instructions that are words (RISC-V unprivileged
 -- manual, base instruction formats and immediate encoding variants).
-use Rattle.std.specs.Prelude.{◌≡◌, ℕ, ◌+◌, ◌-◌, ◌*◌, ◌%◌, ◌^◌, ◌<◌, ℤ, pos, negsuc, ◌≤ℤ◌, ◌<ℤ◌, unsigned_abs}
+use Rattle.std.specs.Prelude.{◌≡◌, ℕ, ◌+◌, ◌-◌, ◌*◌, ◌%◌, ◌^◌, ◌<◌, ℤ}
+use Rattle.std.specs.Prelude.{pos, negsuc, ◌≤ℤ◌, ◌<ℤ◌, unsigned_abs}
 use Rattle.br_words.specs.Bits.{field, low_bits}
 use Rattle.br_rv32im.specs.declared.instruction.Ins.{Ins}
-use Rattle.br_rv32im.specs.declared.instruction.Ins.TheVariants.{Upper, Jal, Jalr, Branch, Load, Store, Imm, Shift, Reg, Ecall}
-use Rattle.br_rv32im.specs.Codes.{opcode_of_upper, opcode_jal, opcode_jalr, opcode_branch, opcode_load, opcode_store, opcode_imm, opcode_reg, word_of_ecall, funct3_of_jalr, funct3_of_branch, funct3_of_load, funct3_of_store, funct3_of_imm, funct3_of_shift, funct7_of_shift, funct3_of_reg, funct7_of_reg}
+use Rattle.br_rv32im.specs.declared.instruction.Ins.TheVariants.{Upper, Jal, Jalr, Branch, Load}
+use Rattle.br_rv32im.specs.declared.instruction.Ins.TheVariants.{Store, Imm, Shift, Reg, Ecall}
+use Rattle.br_rv32im.specs.Codes.{opcode_of_upper, opcode_jal, opcode_jalr, opcode_branch}
+use Rattle.br_rv32im.specs.Codes.{opcode_load, opcode_store, opcode_imm, opcode_reg}
+use Rattle.br_rv32im.specs.Codes.{word_of_ecall, funct3_of_jalr, funct3_of_branch}
+use Rattle.br_rv32im.specs.Codes.{funct3_of_load, funct3_of_store, funct3_of_imm}
+use Rattle.br_rv32im.specs.Codes.{funct3_of_shift, funct7_of_shift, funct3_of_reg, funct7_of_reg}
 
 -- ---- the six formats
 
@@ -22,13 +28,15 @@ i_word opcode funct3 rd rs1 imm =
 abbrev pub s_word : (opcode funct3 rs1 rs2 : ℕ) (imm : ℤ) → ℕ
 s_word opcode funct3 rs1 rs2 imm =
     let bits = low_bits 12 imm
-    in field 11 5 bits * 2 ^ 25 + rs2 * 2 ^ 20 + rs1 * 2 ^ 15 + funct3 * 2 ^ 12 + field 4 0 bits * 2 ^ 7 + opcode
+    in field 11 5 bits * 2 ^ 25 + rs2 * 2 ^ 20 + rs1 * 2 ^ 15 + funct3 * 2 ^ 12
+    + field 4 0 bits * 2 ^ 7 + opcode
 
 -- imm[12] at 31, imm[10:5] at 30..25, imm[4:1] at 11..8, imm[11] at 7
 abbrev pub b_word : (opcode funct3 rs1 rs2 : ℕ) (imm : ℤ) → ℕ
 b_word opcode funct3 rs1 rs2 imm =
     let bits = low_bits 13 imm
-    in field 12 12 bits * 2 ^ 31 + field 10 5 bits * 2 ^ 25 + rs2 * 2 ^ 20 + rs1 * 2 ^ 15 + funct3 * 2 ^ 12
+    in field 12 12 bits * 2 ^ 31 + field 10 5 bits * 2 ^ 25 + rs2 * 2 ^ 20 + rs1 * 2 ^ 15
+    + funct3 * 2 ^ 12
     + field 4 1 bits * 2 ^ 8 + field 11 11 bits * 2 ^ 7 + opcode
 
 -- imm[31:12] at 31..12
@@ -39,7 +47,8 @@ u_word opcode rd imm = imm * 2 ^ 12 + rd * 2 ^ 7 + opcode
 abbrev pub j_word : (opcode rd : ℕ) (imm : ℤ) → ℕ
 j_word opcode rd imm =
     let bits = low_bits 21 imm
-    in field 20 20 bits * 2 ^ 31 + field 10 1 bits * 2 ^ 21 + field 11 11 bits * 2 ^ 20 + field 19 12 bits * 2 ^ 12
+    in field 20 20 bits * 2 ^ 31 + field 10 1 bits * 2 ^ 21 + field 11 11 bits * 2 ^ 20
+    + field 19 12 bits * 2 ^ 12
     + rd * 2 ^ 7 + opcode
 
 -- ---- the word that an instruction is
@@ -53,7 +62,8 @@ word_of (Branch o rs1 rs2 imm) = b_word opcode_branch (funct3_of_branch o) rs1 r
 word_of (Load o rd rs1 imm) = i_word opcode_load (funct3_of_load o) rd rs1 imm
 word_of (Store o rs1 rs2 imm) = s_word opcode_store (funct3_of_store o) rs1 rs2 imm
 word_of (Imm o rd rs1 imm) = i_word opcode_imm (funct3_of_imm o) rd rs1 imm
-word_of (Shift o rd rs1 amount) = r_word opcode_imm (funct3_of_shift o) (funct7_of_shift o) rd rs1 amount
+word_of (Shift o rd rs1 amount) =
+    r_word opcode_imm (funct3_of_shift o) (funct7_of_shift o) rd rs1 amount
 word_of (Reg o rd rs1 rs2) = r_word opcode_reg (funct3_of_reg o) (funct7_of_reg o) rd rs1 rs2
 word_of Ecall = word_of_ecall
 

@@ -1,17 +1,24 @@
--- The text of an instruction in a listing: the mnemonic and the operands in the order of the manual's
--- assembly language.
-use Rattle.std.specs.Prelude.{ℕ, ◌+◌, ◌/◌, ◌%◌, ◌^◌, List, [], ◌∷◌, ◌++◌, ℤ, nat_lt, if◌then◌else◌, codes}
+-- The text of an instruction in a listing: the mnemonic and the operands in the
+-- order of the manual's assembly language.
+use Rattle.std.specs.Prelude.{ℕ, ◌/◌, ◌%◌, ◌^◌, List, [], ◌∷◌, ◌++◌, ℤ, codes}
 use Rattle.std.specs.Fmt.{decimal, signed_decimal}
+use Rattle.br_words.specs.Hexadecimal.{hex_digit}
 use Rattle.br_rv32im.specs.declared.instruction.Ins.{Ins}
-use Rattle.br_rv32im.specs.declared.instruction.Ins.TheVariants.{Upper, Jal, Jalr, Branch, Load, Store, Imm, Shift, Reg, Ecall}
+use Rattle.br_rv32im.specs.declared.instruction.Ins.TheVariants.{Upper, Jal, Jalr, Branch, Load}
+use Rattle.br_rv32im.specs.declared.instruction.Ins.TheVariants.{Store, Imm, Shift, Reg, Ecall}
 use Rattle.br_rv32im.specs.declared.instruction.BranchOp.{BranchOp}
-use Rattle.br_rv32im.specs.declared.instruction.BranchOp.TheVariants.{Beq, Bne, Blt, Bge, Bltu, Bgeu}
+use Rattle.br_rv32im.specs.declared.instruction.BranchOp.TheVariants.{Beq, Bne, Blt}
+use Rattle.br_rv32im.specs.declared.instruction.BranchOp.TheVariants.{Bge, Bltu, Bgeu}
 use Rattle.br_rv32im.specs.declared.instruction.ImmOp.{ImmOp}
-use Rattle.br_rv32im.specs.declared.instruction.ImmOp.TheVariants.{Addi, Slti, Sltiu, Xori, Ori, Andi}
+use Rattle.br_rv32im.specs.declared.instruction.ImmOp.TheVariants.{Addi, Slti, Sltiu}
+use Rattle.br_rv32im.specs.declared.instruction.ImmOp.TheVariants.{Xori, Ori, Andi}
 use Rattle.br_rv32im.specs.declared.instruction.LoadOp.{LoadOp}
 use Rattle.br_rv32im.specs.declared.instruction.LoadOp.TheVariants.{Lb, Lh, Lw, Lbu, Lhu}
 use Rattle.br_rv32im.specs.declared.instruction.RegOp.{RegOp}
-use Rattle.br_rv32im.specs.declared.instruction.RegOp.TheVariants.{Add, Sub, Sll, Slt, Sltu, Xor, Srl, Sra, Or, And, Mul, Mulh, Mulhsu, Mulhu, Div, Divu, Rem, Remu}
+use Rattle.br_rv32im.specs.declared.instruction.RegOp.TheVariants.{Add, Sub, Sll, Slt, Sltu}
+use Rattle.br_rv32im.specs.declared.instruction.RegOp.TheVariants.{Xor, Srl, Sra, Or, And}
+use Rattle.br_rv32im.specs.declared.instruction.RegOp.TheVariants.{Mul, Mulh, Mulhsu, Mulhu}
+use Rattle.br_rv32im.specs.declared.instruction.RegOp.TheVariants.{Div, Divu, Rem, Remu}
 use Rattle.br_rv32im.specs.declared.instruction.ShiftOp.{ShiftOp}
 use Rattle.br_rv32im.specs.declared.instruction.ShiftOp.TheVariants.{Slli, Srli, Srai}
 use Rattle.br_rv32im.specs.declared.instruction.StoreOp.{StoreOp}
@@ -91,10 +98,6 @@ mnemonic_of_reg Remu = codes "remu"
 abbrev pub register : ℕ → List ℕ
 register r = codes "x" ++ decimal r
 
--- a digit from 0 to 15 in lower case
-abbrev pub hex_digit : ℕ → ℕ
-hex_digit d = if nat_lt d 10 then 48 + d else 87 + d
-
 -- a number of 20 bits: `0x` and its five hexadecimal digits
 abbrev pub hex_20 : ℕ → List ℕ
 hex_20 n =
@@ -129,5 +132,6 @@ listing_of (Imm o rd rs1 imm) =
     with_three (mnemonic_of_imm o) (register rd) (register rs1) (signed_decimal imm)
 listing_of (Shift o rd rs1 amount) =
     with_three (mnemonic_of_shift o) (register rd) (register rs1) (decimal amount)
-listing_of (Reg o rd rs1 rs2) = with_three (mnemonic_of_reg o) (register rd) (register rs1) (register rs2)
+listing_of (Reg o rd rs1 rs2) =
+    with_three (mnemonic_of_reg o) (register rd) (register rs1) (register rs2)
 listing_of Ecall = codes "ecall"

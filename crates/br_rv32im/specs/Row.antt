@@ -4,9 +4,13 @@ use Rattle.std.specs.Prelude.{ℕ, ◌+◌, ◌*◌, ◌^◌, ◌==◌, if◌the
 use Rattle.std.specs.Option.{option_map, option_or}
 use Rattle.br_words.specs.Bits.{field, signed_bits}
 use Rattle.br_rv32im.specs.declared.instruction.Ins.{Ins}
-use Rattle.br_rv32im.specs.declared.instruction.Ins.TheVariants.{Upper, Jal, Jalr, Branch, Load, Store, Imm, Shift, Reg, Ecall}
+use Rattle.br_rv32im.specs.declared.instruction.Ins.TheVariants.{Upper, Jal, Jalr, Branch, Load}
+use Rattle.br_rv32im.specs.declared.instruction.Ins.TheVariants.{Store, Imm, Shift, Reg, Ecall}
 use Rattle.br_rv32im.specs.declared.instruction.UpperOp.TheVariants.{Lui, Auipc}
-use Rattle.br_rv32im.specs.Codes.{opcode_of_upper, opcode_jal, opcode_jalr, opcode_branch, opcode_load, opcode_store, opcode_imm, opcode_reg, word_of_ecall, funct3_of_jalr, branch_coded, load_coded, store_coded, imm_coded, shift_coded, reg_coded}
+use Rattle.br_rv32im.specs.Codes.{opcode_of_upper, opcode_jal, opcode_jalr, opcode_branch}
+use Rattle.br_rv32im.specs.Codes.{opcode_load, opcode_store, opcode_imm, opcode_reg}
+use Rattle.br_rv32im.specs.Codes.{word_of_ecall, funct3_of_jalr, branch_coded, load_coded}
+use Rattle.br_rv32im.specs.Codes.{store_coded, imm_coded, shift_coded, reg_coded}
 
 -- ---- the fields of a word
 
@@ -51,7 +55,8 @@ imm_s w = signed_bits 12 (field 31 25 w * 2 ^ 5 + field 11 7 w)
 -- imm[12] at 31, imm[11] at 7, imm[10:5] at 30..25, imm[4:1] at 11..8; bit 0 is 0
 abbrev pub imm_b : ℕ → ℤ
 imm_b w =
-    signed_bits 13 (field 31 31 w * 2 ^ 12 + field 7 7 w * 2 ^ 11 + field 30 25 w * 2 ^ 5 + field 11 8 w * 2)
+    signed_bits 13
+    (field 31 31 w * 2 ^ 12 + field 7 7 w * 2 ^ 11 + field 30 25 w * 2 ^ 5 + field 11 8 w * 2)
 
 -- imm[31:12] at 31..12, as a number of 20 bits
 abbrev pub imm_u : ℕ → ℕ
@@ -60,7 +65,8 @@ imm_u w = field 31 12 w
 -- imm[20] at 31, imm[19:12] at 19..12, imm[11] at 20, imm[10:1] at 30..21; bit 0 is 0
 abbrev pub imm_j : ℕ → ℤ
 imm_j w =
-    signed_bits 21 (field 31 31 w * 2 ^ 20 + field 19 12 w * 2 ^ 12 + field 20 20 w * 2 ^ 11 + field 30 21 w * 2)
+    signed_bits 21 (field 31 31 w * 2 ^ 20 + field 19 12 w * 2 ^ 12 + field 20 20 w * 2 ^ 11
+    + field 30 21 w * 2)
 
 -- ---- the rows by opcode
 

@@ -47,7 +47,8 @@ macro_rules! decode_table {
             _ => None,
         }
     };
-    (@imm $w:ident $f:ident $($funct3:literal $op:ident),*; $($shift3:literal $shift7:literal $shift:ident),*) => {
+    (@imm $w:ident $f:ident $($funct3:literal $op:ident),*;
+        $($shift3:literal $shift7:literal $shift:ident),*) => {
         match ($f.funct3, $f.funct7) {
             $(($funct3, _) => Some(Ins::Imm(ImmOp::$op, $f.rd, $f.rs1, i_immediate($w))),)*
             $(($shift3, $shift7) => Some(Ins::Shift(ShiftOp::$shift, $f.rd, $f.rs1, $f.rs2)),)*
@@ -92,7 +93,8 @@ pub fn decode(w: u32) -> Option<Ins>
             0b000 0b0000000 Add, 0b000 0b0100000 Sub, 0b001 0b0000000 Sll, 0b010 0b0000000 Slt,
             0b011 0b0000000 Sltu, 0b100 0b0000000 Xor, 0b101 0b0000000 Srl, 0b101 0b0100000 Sra,
             0b110 0b0000000 Or, 0b111 0b0000000 And, 0b000 0b0000001 Mul, 0b001 0b0000001 Mulh,
-            0b010 0b0000001 Mulhsu, 0b011 0b0000001 Mulhu, 0b100 0b0000001 Div, 0b101 0b0000001 Divu,
+            0b010 0b0000001 Mulhsu, 0b011 0b0000001 Mulhu, 0b100 0b0000001 Div,
+            0b101 0b0000001 Divu,
             0b110 0b0000001 Rem, 0b111 0b0000001 Remu
         ),
         0b1110011 => ecall(0x00000073),

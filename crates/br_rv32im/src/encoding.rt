@@ -31,8 +31,10 @@ macro_rules! encode_table {
             $(Ins::Branch(BranchOp::$branch_op, rs1, rs2, imm) => {
                 branch_word($branch, $branch3, rs1, rs2, imm)
             })*
-            $(Ins::Load(LoadOp::$load_op, rd, rs1, imm) => immediate_word($load, $load3, rd, rs1, imm),)*
-            $(Ins::Store(StoreOp::$store_op, rs1, rs2, imm) => store_word($store, $store3, rs1, rs2, imm),)*
+            $(Ins::Load(LoadOp::$load_op, rd, rs1, imm) =>
+                immediate_word($load, $load3, rd, rs1, imm),)*
+            $(Ins::Store(StoreOp::$store_op, rs1, rs2, imm) =>
+                store_word($store, $store3, rs1, rs2, imm),)*
             $(Ins::Imm(ImmOp::$imm_op, rd, rs1, imm) => immediate_word($imm, $imm3, rd, rs1, imm),)*
             $(Ins::Shift(ShiftOp::$shift_op, rd, rs1, amount) => {
                 register_word($shift, $shift3, $shift7, rd, rs1, amount)
@@ -73,8 +75,8 @@ pub fn encode(i: Ins) -> u32
 }
 
 /// Whether each register of an instruction is below 32 and its immediate is one that its format
-/// can hold: of I and S from -2048 to 2047, of B even from -4096 to 4094, of U below 2^20, of J even
-/// from -2^20 to 2^20 - 2, of a shift below 32.
+/// can hold: of I and S from -2048 to 2047, of B even from -4096 to 4094, of U below 2^20, of J
+/// even from -2^20 to 2^20 - 2, of a shift below 32.
 pub fn fits(i: Ins) -> bool
     ensures { IsTrue result ↔ Fits i }
 {

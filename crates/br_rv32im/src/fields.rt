@@ -1,9 +1,10 @@
-// The fields of a word and its immediate in each format (RISC-V unprivileged manual, base instruction
-// formats and immediate encoding variants).
+// The fields of a word and its immediate in each format (RISC-V unprivileged manual, base
+// instruction formats and immediate encoding variants).
 
 ghost use Rattle.std.specs.Prelude.{◌≡◌};
 ghost use Rattle.br_rv32im.specs.Encoding.{FitsSignedBits, IsEven};
-ghost use Rattle.br_rv32im.specs.Row.{funct3, funct7, imm_b, imm_i, imm_j, imm_s, opcode, rd, rs1, rs2};
+ghost use Rattle.br_rv32im.specs.Row.{funct3, funct7, imm_b, imm_i};
+ghost use Rattle.br_rv32im.specs.Row.{imm_j, imm_s, opcode, rd, rs1, rs2};
 
 use br_words::{bits, sext};
 

@@ -2,7 +2,8 @@
 // and immediate encoding variants). No two fields share a bit, so their sum sets them side by side.
 
 ghost use Rattle.std.specs.Prelude.{◌≡◌, ◌^◌, ◌<◌, ◌+◌, ◌-◌, ◌*◌};
-ghost use Rattle.br_rv32im.specs.Encoding.{b_word, FitsBits, i_word, j_word, r_word, s_word, u_word};
+ghost use Rattle.br_rv32im.specs.Encoding.{b_word, FitsBits, i_word};
+ghost use Rattle.br_rv32im.specs.Encoding.{j_word, r_word, s_word, u_word};
 
 use br_words::bits;
 

@@ -1,5 +1,6 @@
 -- The fault that is found from token to token is the fault of the tokens.
-use Rattle.std.proofs.Common.{◌≡◌, ℕ, ◌<◌, List, [], ◌∷◌, length, take, zero, suc, Option, Some, None, refl, sym, ap, ◌∙◌, arith, ◌⊎◌, ⊎_elim, inl, inr, slice_get}
+use Rattle.std.proofs.Common.{◌≡◌, ℕ, ◌<◌, List, [], ◌∷◌, length, take, zero, suc, Option, Some}
+use Rattle.std.proofs.Common.{None, refl, sym, ap, ◌∙◌, arith, ◌⊎◌, ⊎_elim, inl, inr, slice_get}
 use Rattle.std.proofs.lemmas.Option.{same_Some, none-some}
 use Rattle.br_sexpr.specs.declared.tree.TextFault.{TextFault}
 use Rattle.br_sexpr.specs.Token.{Token, opens, closes, names, numbers, misspells, strays}
@@ -10,7 +11,8 @@ cases_fault : (o : Option TextFault) → (o ≡ None) ⊎ ((f : TextFault) × (o
 cases_fault None = inl refl
 cases_fault (Some f) = inr (f, refl)
 
-behind-cons : (xs : List ℕ) (t : Token) (ts : List Token) → open_behind xs (t ∷ ts) ≡ open_behind (open_behind xs (t ∷ [])) ts
+behind-cons : (xs : List ℕ) (t : Token) (ts : List Token)
+    → open_behind xs (t ∷ ts) ≡ open_behind (open_behind xs (t ∷ [])) ts
 behind-cons xs (opens at) ts = refl
 behind-cons xs (closes at) ts = refl
 behind-cons xs (names at bytes) ts = refl
@@ -20,7 +22,8 @@ behind-cons xs (strays at) ts = refl
 
 -- nothing is wrong before place k, where the `(` at xs are open before the tokens
 abbrev RightFrom : List ℕ → List Token → ℕ → Type 0
-RightFrom xs ts k = (j : ℕ) (u : Token) → j < k → slice_get ts j ≡ Some u → wrong_where (open_behind xs (take j ts)) u ≡ None
+RightFrom xs ts k = (j : ℕ) (u : Token) → j < k → slice_get ts j ≡ Some u
+    → wrong_where (open_behind xs (take j ts)) u ≡ None
 
 -- the first token that is wrong
 record WrongFrom (xs : List ℕ) (ts : List Token) (f : TextFault) : Type 0 where
@@ -30,14 +33,19 @@ record WrongFrom (xs : List ℕ) (ts : List Token) (f : TextFault) : Type 0 wher
   wrong : wrong_where (open_behind xs (take place ts)) token ≡ Some f
   first : RightFrom xs ts place
 
-right-more : (xs : List ℕ) (t : Token) (ts : List Token) (k : ℕ) → wrong_where xs t ≡ None → RightFrom (open_behind xs (t ∷ [])) ts k → RightFrom xs (t ∷ ts) (suc k)
+right-more : (xs : List ℕ) (t : Token) (ts : List Token) (k : ℕ) → wrong_where xs t ≡ None
+    → RightFrom (open_behind xs (t ∷ [])) ts k → RightFrom xs (t ∷ ts) (suc k)
 right-more xs t ts k right later zero u before there = ap (wrong_where xs) (sym (same_Some t u there)) ∙ right
-right-more xs t ts k right later (suc j) u before there = ap (λ ys. wrong_where ys u) (behind-cons xs t (take j ts)) ∙ later j u (omega arith) there
+right-more xs t ts k right later (suc j) u before there =
+    ap (λ ys. wrong_where ys u) (behind-cons xs t (take j ts)) ∙ later j u (omega arith) there
 
-right-less : (xs : List ℕ) (t : Token) (ts : List Token) (k : ℕ) → RightFrom xs (t ∷ ts) (suc k) → RightFrom (open_behind xs (t ∷ [])) ts k
-right-less xs t ts k right j u before there = ap (λ ys. wrong_where ys u) (sym (behind-cons xs t (take j ts))) ∙ right (suc j) u (omega arith) there
+right-less : (xs : List ℕ) (t : Token) (ts : List Token) (k : ℕ) → RightFrom xs (t ∷ ts) (suc k)
+    → RightFrom (open_behind xs (t ∷ [])) ts k
+right-less xs t ts k right j u before there =
+    ap (λ ys. wrong_where ys u) (sym (behind-cons xs t (take j ts))) ∙ right (suc j) u (omega arith) there
 
-wrong-more : (xs : List ℕ) (t : Token) (ts : List Token) (f : TextFault) → wrong_where xs t ≡ None → WrongFrom (open_behind xs (t ∷ [])) ts f → WrongFrom xs (t ∷ ts) f
+wrong-more : (xs : List ℕ) (t : Token) (ts : List Token) (f : TextFault) → wrong_where xs t ≡ None
+    → WrongFrom (open_behind xs (t ∷ [])) ts f → WrongFrom xs (t ∷ ts) f
 wrong-more xs t ts f right w = record {
   place = suc w.place;
   token = w.token;
@@ -55,7 +63,8 @@ found xs (t ∷ ts) f is = ⊎_elim
     (λ right. ⊎_elim
     (λ w. inl (wrong-more xs t ts f right w))
     (λ rest. inr (right-more xs t ts (length ts) right rest.0, ap unclosed (behind-cons xs t ts) ∙ rest.1))
-    (found (open_behind xs (t ∷ [])) ts f (ap (λ o. or_else o (fault_within (open_behind xs (t ∷ [])) ts)) (sym right) ∙ is)))
+    (found (open_behind xs (t ∷ [])) ts f
+    (ap (λ o. or_else o (fault_within (open_behind xs (t ∷ [])) ts)) (sym right) ∙ is)))
     (λ w. inl (record {
       place = zero;
       token = t;
@@ -66,18 +75,23 @@ found xs (t ∷ ts) f is = ⊎_elim
     (cases_fault (wrong_where xs t))
 
 -- and back
-wrong-found : (xs : List ℕ) (ts : List Token) (f : TextFault) (k : ℕ) (u : Token) → slice_get ts k ≡ Some u → wrong_where (open_behind xs (take k ts)) u ≡ Some f → RightFrom xs ts k → fault_within xs ts ≡ Some f
+wrong-found : (xs : List ℕ) (ts : List Token) (f : TextFault) (k : ℕ) (u : Token) → slice_get ts k ≡ Some u
+    → wrong_where (open_behind xs (take k ts)) u ≡ Some f → RightFrom xs ts k → fault_within xs ts ≡ Some f
 wrong-found xs [] f k u there wrong first = absurd (none-some u there)
-wrong-found xs (t ∷ ts) f zero u there wrong first = ap (λ o. or_else o (fault_within (open_behind xs (t ∷ [])) ts)) (ap (wrong_where xs) (same_Some t u there) ∙ wrong)
+wrong-found xs (t ∷ ts) f zero u there wrong first =
+    ap (λ o. or_else o (fault_within (open_behind xs (t ∷ [])) ts)) (ap (wrong_where xs) (same_Some t u there) ∙ wrong)
 wrong-found xs (t ∷ ts) f (suc k) u there wrong first =
     ap (λ o. or_else o (fault_within (open_behind xs (t ∷ [])) ts)) (first zero t (omega arith) refl)
-    ∙ wrong-found (open_behind xs (t ∷ [])) ts f k u there (ap (λ ys. wrong_where ys u) (sym (behind-cons xs t (take k ts))) ∙ wrong) (right-less xs t ts k first)
+    ∙ wrong-found (open_behind xs (t ∷ [])) ts f k u there
+    (ap (λ ys. wrong_where ys u) (sym (behind-cons xs t (take k ts))) ∙ wrong) (right-less xs t ts k first)
 
-right-found : (xs : List ℕ) (ts : List Token) → RightFrom xs ts (length ts) → fault_within xs ts ≡ unclosed (open_behind xs ts)
+right-found : (xs : List ℕ) (ts : List Token) → RightFrom xs ts (length ts)
+    → fault_within xs ts ≡ unclosed (open_behind xs ts)
 right-found xs [] right = refl
 right-found xs (t ∷ ts) right =
     ap (λ o. or_else o (fault_within (open_behind xs (t ∷ [])) ts)) (right zero t (omega arith) refl)
-    ∙ right-found (open_behind xs (t ∷ [])) ts (right-less xs t ts (length ts) right) ∙ ap unclosed (sym (behind-cons xs t ts))
+    ∙ right-found (open_behind xs (t ∷ [])) ts (right-less xs t ts (length ts) right)
+    ∙ ap unclosed (sym (behind-cons xs t ts))
 
 pub IsFault-found : (ts : List Token) (f : TextFault) → fault_within [] ts ≡ Some f → IsFault ts f
 IsFault-found ts f is = ⊎_elim

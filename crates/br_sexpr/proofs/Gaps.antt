@@ -1,5 +1,6 @@
 -- What lies between tokens, and that their offsets ascend.
-use Rattle.std.proofs.Common.{◌≡◌, ℕ, ◌+◌, ◌≤◌, Bool, true, List, [], ◌∷◌, ◌++◌, length, zero, suc, Option, Some, None, refl, sym, ap, ◌∙◌, subst, arith, append_assoc, ◌⊎◌, ⊎_elim, inl, inr, slice_get, nat_le}
+use Rattle.std.proofs.Common.{◌≡◌, ℕ, ◌+◌, ◌≤◌, Bool, true, List, [], ◌∷◌, ◌++◌, length, zero, suc, Option, Some, None}
+use Rattle.std.proofs.Common.{refl, sym, ap, ◌∙◌, subst, arith, append_assoc, ◌⊎◌, ⊎_elim, inl, inr, slice_get, nat_le}
 use Rattle.std.proofs.lemmas.Option.{none-some, same_Some, slice_get_within}
 use Rattle.std.proofs.lemmas.List.{length-append}
 use Rattle.std.proofs.lemmas.Bool.{cases_Bool, cases_lt, cond_both, cond-true, cond-false}
@@ -7,8 +8,10 @@ use Rattle.br_sexpr.specs.declared.tree.TextFault.{TextFault}
 use Rattle.br_sexpr.specs.declared.tree.TextFault.TheVariants.{BadByte, BadNumber, ExtraClose, TooDeep}
 use Rattle.br_base.specs.Name.{is_name, continues_name}
 use Rattle.br_sexpr.specs.Number.{number_of}
-use Rattle.br_sexpr.specs.Layout.{Piece, blank, comment, opening, closing, run, stray, spelling, stays_in_line, IsPiece, stops, EndsBefore, IsLayout}
-use Rattle.br_sexpr.specs.Token.{Token, opens, closes, names, numbers, misspells, strays, number_token, token_of_run, tokens_at, tokens_of}
+use Rattle.br_sexpr.specs.Layout.{Piece, blank, comment, opening, closing, run, stray, spelling}
+use Rattle.br_sexpr.specs.Layout.{stays_in_line, IsPiece, stops, EndsBefore, IsLayout}
+use Rattle.br_sexpr.specs.Token.{Token, opens, closes, names, numbers, misspells, strays}
+use Rattle.br_sexpr.specs.Token.{number_token, token_of_run, tokens_at, tokens_of}
 use Rattle.br_sexpr.specs.Between.{is_gap, Alternates, offset_of}
 use Rattle.br_sexpr.specs.Faults.{wrong_where, wrong_close, wrong_at, IsFault}
 use Rattle.br_sexpr.specs.Reads.{HasFault}
@@ -27,12 +30,14 @@ ends-front (run bs) xs ys ends = stops-front continues_name xs ys ends
 ends-front (stray b) xs ys ends = tt
 
 -- one more blank or comment in front
-gap-more : (p : Piece) (at : ℕ) (rest : List ℕ) (ts : List Token) → is_gap p ≡ true → IsPiece p → EndsBefore p rest → Alternates (at + length (spelling p)) rest ts → Alternates at (spelling p ++ rest) ts
+gap-more : (p : Piece) (at : ℕ) (rest : List ℕ) (ts : List Token) → is_gap p ≡ true → IsPiece p → EndsBefore p rest
+    → Alternates (at + length (spelling p)) rest ts → Alternates at (spelling p ++ rest) ts
 gap-more p at rest [] gap piece ends (ps, all, layout) = (p ∷ ps, rw gap all, (rest, refl, piece, ends, layout))
 gap-more p at rest (t ∷ ts) gap piece ends (bytes, q, more, is, (ps, all, layout), token, others) =
     let P : ℕ → Type 0 = λ n. tokens_at n q ≡ t ∷ [] in
     let Q : ℕ → Type 0 = λ n. Alternates (n + length (spelling q)) more ts in
-    let moved : at + length (spelling p) + length bytes ≡ at + length (spelling p ++ bytes) = omega (arith, length-append (spelling p) bytes) in
+    let moved : at + length (spelling p) + length bytes ≡ at + length (spelling p ++ bytes) =
+    omega (arith, length-append (spelling p) bytes) in
     let E : List ℕ → Type 0 = λ xs. EndsBefore p xs in (
       spelling p ++ bytes,
       q,
@@ -44,14 +49,16 @@ gap-more p at rest (t ∷ ts) gap piece ends (bytes, q, more, is, (ps, all, layo
     )
 
 -- a token in front
-token-more : (p : Piece) (at : ℕ) (rest : List ℕ) (t : Token) (ts : List Token) → tokens_at at p ≡ t ∷ [] → Alternates (at + length (spelling p)) rest ts → Alternates at (spelling p ++ rest) (t ∷ ts)
+token-more : (p : Piece) (at : ℕ) (rest : List ℕ) (t : Token) (ts : List Token) → tokens_at at p ≡ t ∷ []
+    → Alternates (at + length (spelling p)) rest ts → Alternates at (spelling p ++ rest) (t ∷ ts)
 token-more p at rest t ts token others =
     let P : ℕ → Type 0 = λ n. tokens_at n p ≡ t ∷ [] in
     let Q : ℕ → Type 0 = λ n. Alternates (n + length (spelling p)) rest ts in
     let same : at ≡ at + 0 = omega arith in
     ([], p, rest, refl, ([], refl, refl), subst P same token, subst Q same others)
 
-alternates-piece : (p : Piece) (at : ℕ) (rest : List ℕ) (ts : List Token) → IsPiece p → EndsBefore p rest → Alternates (at + length (spelling p)) rest ts → Alternates at (spelling p ++ rest) (tokens_at at p ++ ts)
+alternates-piece : (p : Piece) (at : ℕ) (rest : List ℕ) (ts : List Token) → IsPiece p → EndsBefore p rest
+    → Alternates (at + length (spelling p)) rest ts → Alternates at (spelling p ++ rest) (tokens_at at p ++ ts)
 alternates-piece (blank b) at rest ts piece ends more = gap-more (blank b) at rest ts refl piece ends more
 alternates-piece (comment cs) at rest ts piece ends more = gap-more (comment cs) at rest ts refl piece ends more
 alternates-piece opening at rest ts piece ends more = token-more opening at rest (opens at) ts refl more
@@ -63,7 +70,8 @@ pub alternates : (text : List ℕ) (ps : List Piece) (at : ℕ) → IsLayout ps 
 alternates text [] at is = ([], refl, is)
 alternates text (p ∷ ps) at (rest, is, piece, ends, more) =
     let P : List ℕ → Type 0 = λ bs. Alternates at bs (tokens_of at (p ∷ ps)) in
-    subst P (sym is) (alternates-piece p at rest (tokens_of (at + length (spelling p)) ps) piece ends (alternates rest ps (at + length (spelling p)) more))
+    subst P (sym is) (alternates-piece p at rest (tokens_of (at + length (spelling p)) ps) piece ends
+    (alternates rest ps (at + length (spelling p)) more))
 
 place_of : Token → ℕ
 place_of (opens at) = at
@@ -80,7 +88,8 @@ place-number at (Some n) = refl
 
 place-run : (at : ℕ) (bs : List ℕ) → place_of (token_of_run at bs) ≡ at
 unfolding place_of
-place-run at bs = cond_both (is_name bs) (names at bs) (number_token at (number_of bs)) (λ t. place_of t ≡ at) (λ _. refl) (λ _. place-number at (number_of bs))
+place-run at bs = cond_both (is_name bs) (names at bs) (number_token at (number_of bs)) (λ t. place_of t ≡ at)
+    (λ _. refl) (λ _. place-number at (number_of bs))
 
 -- a piece is a token that stands where the piece does, or none
 one-token : (p : Piece) (at : ℕ) → (tokens_at at p ≡ []) ⊎ ((t : Token) × (tokens_at at p ≡ t ∷ []) × (place_of t ≡ at))
@@ -98,13 +107,17 @@ StandFrom at ts = (k : ℕ) (t : Token) → slice_get ts k ≡ Some t → at ≤
 
 -- tokens in the order of their offsets
 abbrev Ascend : List Token → Type 0
-Ascend ts = (j k : ℕ) (t u : Token) → j ≤ k → slice_get ts j ≡ Some t → slice_get ts k ≡ Some u → place_of t ≤ place_of u
+Ascend ts = (j k : ℕ) (t u : Token) → j ≤ k → slice_get ts j ≡ Some t → slice_get ts k ≡ Some u
+    → place_of t ≤ place_of u
 
-stand-more : (at : ℕ) (first : Token) (ts : List Token) → place_of first ≡ at → StandFrom at ts → StandFrom at (first ∷ ts)
-stand-more at first ts is later zero t there = let same : place_of first ≡ place_of t = ap place_of (same_Some first t there) in omega arith
+stand-more : (at : ℕ) (first : Token) (ts : List Token) → place_of first ≡ at → StandFrom at ts
+    → StandFrom at (first ∷ ts)
+stand-more at first ts is later zero t there =
+    let same : place_of first ≡ place_of t = ap place_of (same_Some first t there) in omega arith
 stand-more at first ts is later (suc k) t there = later k t there
 
-ascend-more : (at : ℕ) (first : Token) (ts : List Token) → place_of first ≡ at → StandFrom at ts → Ascend ts → Ascend (first ∷ ts)
+ascend-more : (at : ℕ) (first : Token) (ts : List Token) → place_of first ≡ at → StandFrom at ts → Ascend ts
+    → Ascend (first ∷ ts)
 ascend-more at first ts is later order zero k t u below there then =
     let same : place_of first ≡ place_of t = ap place_of (same_Some first t there) in
     let bound : at ≤ place_of u = stand-more at first ts is later k u then in
@@ -143,7 +156,8 @@ wrong-place xs (misspells at) g is = ap offset_of (sym (same_Some (BadNumber at)
 wrong-place xs (strays at) g is = ap offset_of (sym (same_Some (BadByte at) g is))
 
 -- the first token that is wrong stands before every other
-first-lowest : (ts : List Token) (f : TextFault) → Ascend ts → IsFault ts f → (k : ℕ) (t : Token) (g : TextFault) → slice_get ts k ≡ Some t → wrong_at ts k t ≡ Some g → offset_of f ≤ offset_of g
+first-lowest : (ts : List Token) (f : TextFault) → Ascend ts → IsFault ts f → (k : ℕ) (t : Token) (g : TextFault)
+    → slice_get ts k ≡ Some t → wrong_at ts k t ≡ Some g → offset_of f ≤ offset_of g
 first-lowest ts f order is k t g there wrong = ⊎_elim
     (λ w. ⊎_elim
     (λ before. absurd (none-some g (sym (w.first k t before there) ∙ wrong)))
@@ -156,7 +170,9 @@ first-lowest ts f order is k t g there wrong = ⊎_elim
     (λ right. absurd (none-some g (sym (right.0 k t (slice_get_within ts k t there) there) ∙ wrong)))
     is
 
-pub lowest : (text : List ℕ) (f : TextFault) → HasFault text f → (ps : List Piece) → IsLayout ps text → (k : ℕ) (t : Token) (g : TextFault) → slice_get (tokens_of 0 ps) k ≡ Some t → wrong_at (tokens_of 0 ps) k t ≡ Some g → offset_of f ≤ offset_of g
+pub lowest : (text : List ℕ) (f : TextFault) → HasFault text f
+    → (ps : List Piece) → IsLayout ps text → (k : ℕ) (t : Token) (g : TextFault) → slice_get (tokens_of 0 ps) k ≡ Some t
+    → wrong_at (tokens_of 0 ps) k t ≡ Some g → offset_of f ≤ offset_of g
 lowest text f wrong ps is =
     let same : wrong.pieces ≡ ps = layout-is wrong.pieces text wrong.layout ∙ sym (layout-is ps text is) in
     let P : List Piece → Type 0 = λ qs. IsFault (tokens_of 0 qs) f in

@@ -14,27 +14,36 @@ use Rattle.br_sexpr.proofs.OneAnswer.{not-both, reads-one}
 use Rattle.br_sexpr.proofs.Again.{prints-read}
 use Rattle.br_sexpr.proofs.Faults.{IsFault-found}
 
-pub Answers-trees : (r : Result (List Tree) (OrMemory TextFault)) (text : List ℕ) → Answers r (tokens_from 0 text) → IfOk r (λ trees. Reads text trees)
+pub Answers-trees : (r : Result (List Tree) (OrMemory TextFault)) (text : List ℕ) → Answers r (tokens_from 0 text)
+    → IfOk r (λ trees. Reads text trees)
 unfolding tokens_from
-Answers-trees (Ok trees) text a = record { pieces = pieces outside text; layout = layout text; tokens = a.tokens; shallow = a.fits }
+Answers-trees (Ok trees) text a =
+    record { pieces = pieces outside text; layout = layout text; tokens = a.tokens; shallow = a.fits }
 Answers-trees (Err e) text a = tt
 
-pub Answers-fault : (r : Result (List Tree) (OrMemory TextFault)) (text : List ℕ) → Answers r (tokens_from 0 text) → IfErr r (λ e. IfFault e (λ f. HasFault text f))
+pub Answers-fault : (r : Result (List Tree) (OrMemory TextFault)) (text : List ℕ) → Answers r (tokens_from 0 text)
+    → IfErr r (λ e. IfFault e (λ f. HasFault text f))
 unfolding tokens_from
 Answers-fault (Ok trees) text a = tt
 Answers-fault (Err Memory) text a = tt
-Answers-fault (Err (Fault f)) text a = record { pieces = pieces outside text; layout = layout text; fault = IsFault-found _ f a }
+Answers-fault (Err (Fault f)) text a =
+    record { pieces = pieces outside text; layout = layout text; fault = IsFault-found _ f a }
 
-pub Answers-readable : (r : Result (List Tree) (OrMemory TextFault)) (text : List ℕ) → Answers r (tokens_from 0 text) → (trees : List Tree) → Reads text trees → IfErr r (λ e. e ≡ Memory)
+pub Answers-readable : (r : Result (List Tree) (OrMemory TextFault)) (text : List ℕ) → Answers r (tokens_from 0 text)
+    → (trees : List Tree) → Reads text trees → IfErr r (λ e. e ≡ Memory)
 Answers-readable (Ok trees) text a others reads = tt
 Answers-readable (Err Memory) text a others reads = refl
-Answers-readable (Err (Fault f)) text a others reads = absurd (not-both text others f reads (Answers-fault (Err (Fault f)) text a))
+Answers-readable (Err (Fault f)) text a others reads =
+    absurd (not-both text others f reads (Answers-fault (Err (Fault f)) text a))
 
-pub Answers-faulty : (r : Result (List Tree) (OrMemory TextFault)) (text : List ℕ) → Answers r (tokens_from 0 text) → (f : TextFault) → HasFault text f → IsErr r
+pub Answers-faulty : (r : Result (List Tree) (OrMemory TextFault)) (text : List ℕ) → Answers r (tokens_from 0 text)
+    → (f : TextFault) → HasFault text f → IsErr r
 Answers-faulty (Ok trees) text a f wrong = absurd (not-both text trees f (Answers-trees (Ok trees) text a) wrong)
 Answers-faulty (Err e) text a f wrong = refl
 
-pub Answers-printed : (r : Result (List Tree) (OrMemory TextFault)) (text : List ℕ) → Answers r (tokens_from 0 text) → (trees : List Tree) → ArePrintable trees → text ≡ canonical trees → MatchResult r (λ got. AreSameUpToOffsets got trees) (λ e. e ≡ Memory)
+pub Answers-printed : (r : Result (List Tree) (OrMemory TextFault)) (text : List ℕ)
+    → Answers r (tokens_from 0 text) → (trees : List Tree) → ArePrintable trees → text ≡ canonical trees
+    → MatchResult r (λ got. AreSameUpToOffsets got trees) (λ e. e ≡ Memory)
 Answers-printed (Ok got) text a trees printable is =
     let again = prints-read trees printable in
     let P : List ℕ → Type 0 = λ bs. Reads bs again.0 in

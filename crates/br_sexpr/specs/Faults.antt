@@ -1,7 +1,9 @@
 -- The fault of a text, by its tokens.
-use Rattle.std.specs.Prelude.{◌≡◌, ℕ, ◌<◌, ◌⊎◌, List, [], ◌∷◌, ◌++◌, length, take, Option, Some, None, nat_le, if◌then◌else◌, slice_get}
+use Rattle.std.specs.Prelude.{◌≡◌, ℕ, ◌<◌, ◌⊎◌, List, [], ◌∷◌, ◌++◌, length, take}
+use Rattle.std.specs.Prelude.{Option, Some, None, nat_le, if◌then◌else◌, slice_get}
 use Rattle.br_sexpr.specs.declared.tree.TextFault.{TextFault}
-use Rattle.br_sexpr.specs.declared.tree.TextFault.TheVariants.{BadByte, BadNumber, ExtraClose, Unclosed, TooDeep}
+use Rattle.br_sexpr.specs.declared.tree.TextFault.TheVariants.{BadByte, BadNumber}
+use Rattle.br_sexpr.specs.declared.tree.TextFault.TheVariants.{ExtraClose, Unclosed, TooDeep}
 use Rattle.br_sexpr.specs.Token.{Token, opens, closes, names, numbers, misspells, strays}
 
 -- all but the last
@@ -10,7 +12,8 @@ but_last [] = []
 but_last (x ∷ []) = []
 but_last (x ∷ y ∷ xs) = x ∷ but_last (y ∷ xs)
 
--- The offsets of the `(` that are open after these tokens, the outermost first, where those at xs are open before them. A `)` is the partner of the last one.
+-- The offsets of the `(` that are open after these tokens, the outermost first, where those at xs
+-- are open before them. A `)` is the partner of the last one.
 abbrev pub open_behind : List ℕ → List Token → List ℕ
 open_behind xs [] = xs
 open_behind xs (opens at ∷ ts) = open_behind (xs ++ at ∷ []) ts
@@ -55,6 +58,8 @@ abbrev pub unclosed : List ℕ → Option TextFault
 unclosed [] = None
 unclosed (at ∷ xs) = Some (Unclosed at)
 
--- the fault of a text of these tokens: the first that is wrong, or, where none is, that a `(` has no partner
+-- the fault of a text of these tokens: the first that is wrong, or,
+-- where none is, that a `(` has no partner
 abbrev pub IsFault : List Token → TextFault → Type 0
-IsFault ts f = IsFirstWrong ts f ⊎ (AllRightBefore ts (length ts) × (unclosed (open_behind [] ts) ≡ Some f))
+IsFault ts f =
+    IsFirstWrong ts f ⊎ (AllRightBefore ts (length ts) × (unclosed (open_behind [] ts) ≡ Some f))

@@ -1,5 +1,6 @@
 -- A text cut into blanks, comments, parentheses and runs.
-use Rattle.std.specs.Prelude.{◌≡◌, ℕ, ◌<◌, Bool, true, not, ◌||◌, List, [], ◌∷◌, ◌++◌, length, IsTrue, ⊤, ◌==◌}
+use Rattle.std.specs.Prelude.{◌≡◌, ℕ, ◌<◌, Bool, true, not, ◌||◌, List}
+use Rattle.std.specs.Prelude.{[], ◌∷◌, ◌++◌, length, IsTrue, ⊤, ◌==◌}
 use Rattle.std.specs.List.{list_all}
 use Rattle.br_base.specs.Name.{continues_name}
 
@@ -59,4 +60,5 @@ EndsBefore (stray b) rest = ⊤
 -- the text is these pieces, one after another
 abbrev pub IsLayout : List Piece → List ℕ → Type 0
 IsLayout [] text = text ≡ []
-IsLayout (p ∷ ps) text = (rest : List ℕ) × (text ≡ spelling p ++ rest) × IsPiece p × EndsBefore p rest × IsLayout ps rest
+IsLayout (p ∷ ps) text =
+    (rest : List ℕ) × (text ≡ spelling p ++ rest) × IsPiece p × EndsBefore p rest × IsLayout ps rest

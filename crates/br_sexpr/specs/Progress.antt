@@ -1,5 +1,7 @@
 -- How far a reader has come. Only private functions speak of it.
-use Rattle.std.specs.Prelude.{◌≡◌, ℕ, ◌+◌, ◌*◌, ◌^◌, ◌-◌, ◌≤◌, Bool, false, ◌&&◌, List, [], ◌∷◌, ◌++◌, length, take, drop, map, Option, Some, None, Result, Ok, Err, ⊤, nat_lt, ◌==◌, if◌then◌else◌}
+use Rattle.std.specs.Prelude.{◌≡◌, ℕ, ◌+◌, ◌*◌, ◌^◌, ◌-◌, ◌≤◌, Bool, false, ◌&&◌, List}
+use Rattle.std.specs.Prelude.{[], ◌∷◌, ◌++◌, length, take, drop, map, Option, Some}
+use Rattle.std.specs.Prelude.{None, Result, Ok, Err, ⊤, nat_lt, ◌==◌, if◌then◌else◌}
 use Rattle.std.specs.Char.{digit_value, is_digit}
 use Rattle.std.specs.List.{take_while}
 use Rattle.br_base.specs.Name.{continues_name}
@@ -11,7 +13,8 @@ use Rattle.br_sexpr.specs.declared.piece.Kind.{Kind}
 use Rattle.br_sexpr.specs.declared.piece.Kind.TheVariants as kind
 use Rattle.br_sexpr.specs.declared.reading.OpenList.{OpenList}
 use Rattle.br_sexpr.specs.declared.reading.Reader.{Reader}
-use Rattle.br_sexpr.specs.Layout.{Piece, blank, comment, opening, closing, run, stray, is_blank, stays_in_line}
+use Rattle.br_sexpr.specs.Layout.{Piece, blank, comment, opening, closing}
+use Rattle.br_sexpr.specs.Layout.{run, stray, is_blank, stays_in_line}
 use Rattle.br_sexpr.specs.Token.{Token, opens, closes, strays, token_of_run, tokens_of, kept}
 use Rattle.br_sexpr.specs.Faults.{open_behind, wrong_where, unclosed}
 use Rattle.br_sexpr.specs.Forest.{tree_tokens, forest_tokens, tree_height, forest_height}
@@ -47,7 +50,8 @@ within b =
 -- the pieces that a text begins
 abbrev pub pieces : Within → List ℕ → List Piece
 pieces w [] = []
-pieces w (b ∷ bs) = (if goes_on w b then [] else begun b bs ∷ []) ++ pieces (if goes_on w b then w else within b) bs
+pieces w (b ∷ bs) =
+    (if goes_on w b then [] else begun b bs ∷ []) ++ pieces (if goes_on w b then w else within b) bs
 
 -- the tokens of a text that stands at an offset
 unfoldable pub tokens_from : ℕ → List ℕ → List Token
@@ -66,10 +70,12 @@ pub record Opened : Type 0 where
   pub at : ℕ
   pub before : List Tree
 
--- The lists that are open, where the first trees of all stand before them, and the trees in the last of them.
+-- The lists that are open, where the first trees of all stand before
+-- them, and the trees in the last of them.
 abbrev pub opened : ℕ → List OpenList → List Tree → List Opened
 opened base [] trees = []
-opened base (o ∷ os) trees = (record { at = o.at; before = take (o.start - base) trees }) ∷ opened o.start os (drop (o.start - base) trees)
+opened base (o ∷ os) trees = (record { at = o.at; before = take (o.start - base) trees })
+    ∷ opened o.start os (drop (o.start - base) trees)
 
 abbrev pub innermost : ℕ → List OpenList → List Tree → List Tree
 innermost base [] trees = trees
@@ -115,7 +121,8 @@ fault_within xs (t ∷ ts) = or_else (wrong_where xs t) (fault_within (open_behi
 -- from old to new the reader took these tokens
 pub record Took (old new : Reader) (ts : List Token) : Type 0 where
   pub tokens : seen new ≡ seen old ++ map kept ts
-  pub fault : (rest : List Token) → fault_within (places old) (ts ++ rest) ≡ fault_within (places new) rest
+  pub fault : (rest : List Token)
+      → fault_within (places old) (ts ++ rest) ≡ fault_within (places new) rest
   pub fits : Fits old → Fits new
   pub ordered : IsOrdered new
 
@@ -148,7 +155,8 @@ Answers (Err (Fault f)) ts = fault_within [] ts ≡ Some f
 
 -- the number with one more digit after it, where it is one and the number is below 2^32
 abbrev pub and_digit : ℕ → ℕ → ℕ → Option ℕ
-and_digit base n c = if is_digit c base && nat_lt (n * base + digit_value c) (2 ^ 32) then Some (n * base + digit_value c) else None
+and_digit base n c = if is_digit c base && nat_lt (n * base + digit_value c) (2 ^ 32)
+    then Some (n * base + digit_value c) else None
 
 -- the number with all these digits after it
 abbrev pub and_digits : ℕ → List ℕ → Option ℕ → Option ℕ

@@ -7,7 +7,12 @@ use Rattle.br_sexpr.specs.Token.{kept, tokens_of}
 use Rattle.br_sexpr.specs.Faults.{IsFault}
 use Rattle.br_sexpr.specs.Forest.{forest_tokens, forest_height}
 
--- The text is blanks, comments and tokens, the tokens are those of the trees in order, and no list stands in 256 others.
+-- the most bytes of a source text
+abbrev pub most_bytes : ℕ
+most_bytes = 1048576
+
+-- The text is blanks, comments and tokens, the tokens are those of the trees in
+-- order, and no list stands in 256 others.
 pub record Reads (text : List ℕ) (trees : List Tree) : Type 0 where
   pub pieces : List Piece
   pub layout : IsLayout pieces text

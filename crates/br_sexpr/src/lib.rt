@@ -10,5 +10,5 @@ mod tree;
 
 pub use laws::{lowest_offset, one_answer, one_layout, only_gaps_between};
 pub use printing::print;
-pub use reading::read;
+pub use reading::{MOST_BYTES, read};
 pub use tree::{TextFault, Tree};

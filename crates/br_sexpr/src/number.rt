@@ -61,7 +61,7 @@ fn word_in(base: u32, digits: &[u8]) -> Option<u32>
     Some(value)
 }
 
-/// The number with one more digit after it.
+// The number with one more digit after it.
 fn and_digit(base: u32, value: u32, byte: u8) -> Option<u32>
     requires low { 2 ≤ base }
     requires high { base ≤ 16 }

@@ -27,7 +27,8 @@ pub fn first_piece(text: &[u8]) -> (Kind, usize)
     ensures some { 0 < result.1 }
     ensures within { result.1 ≤ length text.now }
     ensures cut { (at : ℕ) → tokens_from at text.now
-        ≡ token_as at result.0 (take result.1 text.now) ++ tokens_from (at + result.1) (drop result.1 text.now) }
+        ≡ token_as at result.0 (take result.1 text.now)
+        ++ tokens_from (at + result.1) (drop result.1 text.now) }
 {
     let Some((first, rest)) = text.split_first() else {
         unreachable!()
@@ -36,11 +37,12 @@ pub fn first_piece(text: &[u8]) -> (Kind, usize)
     (kind, 1 + len)
 }
 
-/// What a byte begins, and how many of the bytes after it belong to it.
+// What a byte begins, and how many of the bytes after it belong to it.
 fn begun(first: u8, rest: &[u8]) -> (Kind, usize)
     ensures within { result.1 ≤ length rest.now }
     ensures cut { (at : ℕ) → tokens_from at (first ∷ rest.now)
-        ≡ token_as at result.0 (first ∷ take result.1 rest.now) ++ tokens_from (at + (1 + result.1)) (drop result.1 rest.now) }
+        ≡ token_as at result.0 (first ∷ take result.1 rest.now)
+        ++ tokens_from (at + (1 + result.1)) (drop result.1 rest.now) }
 {
     if is_blank(first) {
         (Kind::Gap, 0)
@@ -63,14 +65,14 @@ fn is_blank(byte: u8) -> bool
     byte == b' ' || byte == b'\t' || byte == b'\n' || byte == b'\r'
 }
 
-/// How many bytes stand before the end of the line.
+// How many bytes stand before the end of the line.
 fn line_len(text: &[u8]) -> usize
     ensures { result ≡ prefix_len stays_in_line text.now }
 {
     text.iter().take_while(|byte| **byte != b'\n').count()
 }
 
-/// How many bytes the run has that goes on at the front of a text.
+// How many bytes the run has that goes on at the front of a text.
 fn run_len(text: &[u8]) -> usize
     ensures { result ≡ prefix_len continues_name text.now }
 {

@@ -1,12 +1,13 @@
 // Reading: from a text to its trees.
 
-ghost use Rattle.std.specs.Prelude.{◌≡◌, ℕ, ◌≤◌, List, [], ◌∷◌, length, IsErr, IfOk, IfErr, OnOk, MatchOption, MatchResult};
+ghost use Rattle.std.specs.Prelude.{◌≡◌, ℕ, ◌≤◌, List, [], ◌∷◌, length, IsErr};
+ghost use Rattle.std.specs.Prelude.{IfOk, IfErr, OnOk, MatchOption, MatchResult};
 ghost use Rattle.br_base.specs.declared.failure.OrMemory.{OrMemory};
 ghost use Rattle.br_sexpr.specs.declared.tree.Tree.{Tree};
 ghost use Rattle.br_sexpr.specs.declared.tree.TextFault.{TextFault};
 ghost use Rattle.br_sexpr.specs.Canonical.{canonical, AreSameUpToOffsets, ArePrintable};
 ghost use Rattle.br_base.specs.Faults.{IfFault};
-ghost use Rattle.br_sexpr.specs.Reads.{Reads, HasFault};
+ghost use Rattle.br_sexpr.specs.Reads.{most_bytes, Reads, HasFault};
 ghost use Rattle.br_sexpr.specs.Token.{token_of_run, opens, closes};
 ghost use Rattle.br_sexpr.specs.Progress.{tokens_from, token_as, Answers, Refuses, IsWord};
 
@@ -17,7 +18,10 @@ use br_base::{Name, OrMemory};
 use sqlite_items::Items;
 use std::alloc::Global;
 
-/// How many lists may stand in one another.
+/// The most bytes of a source text.
+pub const MOST_BYTES: usize = 1_048_576;
+
+// How many lists may stand in one another.
 const MOST_OPEN: usize = 256;
 
 /// A list whose `)` has not come: where its `(` stands, and where its first tree stands among the
@@ -40,9 +44,10 @@ struct Reader {
 /// `;` to the end of its line. A fault is the one of the lowest offset, and `Unclosed` comes only
 /// where there is no other. Want of memory may come at any text.
 pub fn read(alloc: Global, bytes: &[u8]) -> Result<Items<Tree>, OrMemory<TextFault>>
-    requires { length bytes.now ≤ 1048576 }
+    requires { length bytes.now ≤ most_bytes }
     ensures trees { IfOk result (λ trees. Reads bytes.now trees) }
-    ensures readable { (trees : List Tree) → Reads bytes.now trees → IfErr result (λ e. e ≡ OrMemory.Memory) }
+    ensures readable { (trees : List Tree) → Reads bytes.now trees →
+        IfErr result (λ e. e ≡ OrMemory.Memory) }
 
     ensures fault { IfErr result (λ e. IfFault e (λ f. HasFault bytes.now f)) }
     ensures faulty { (f : TextFault) → HasFault bytes.now f → IsErr result }
@@ -55,7 +60,7 @@ pub fn read(alloc: Global, bytes: &[u8]) -> Result<Items<Tree>, OrMemory<TextFau
 }
 
 fn trees_of(alloc: Global, bytes: &[u8]) -> Result<Items<Tree>, OrMemory<TextFault>>
-    requires { length bytes.now ≤ 1048576 }
+    requires { length bytes.now ≤ most_bytes }
     ensures { Answers result (tokens_from 0 bytes.now) }
 {
     let mut reader = Reader::new(alloc);
@@ -83,11 +88,12 @@ impl Reader {
         }
     }
 
-    /// Takes the piece of these bytes that stands at this offset.
+    // Takes the piece of these bytes that stands at this offset.
     fn take(&mut self, at: u32, kind: Kind, bytes: &[u8]) -> Result<(), OrMemory<TextFault>>
         requires { IsOrdered self.old }
         ensures took { OnOk result (Took self.old self.new (token_as at kind bytes.now)) }
-        ensures refused { IfErr result (λ e. Refuses e (places self.old) (token_as at kind bytes.now)) }
+        ensures refused { IfErr result
+            (λ e. Refuses e (places self.old) (token_as at kind bytes.now)) }
     {
         match kind {
             Kind::Gap => Ok(()),
@@ -129,16 +135,18 @@ impl Reader {
     fn push(&mut self, at: u32, run: &[u8]) -> Result<(), OrMemory<TextFault>>
         requires { IsOrdered self.old }
         ensures took { OnOk result (Took self.old self.new (token_of_run at run.now ∷ [])) }
-        ensures refused { IfErr result (λ e. Refuses e (places self.old) (token_of_run at run.now ∷ [])) }
+        ensures refused { IfErr result
+            (λ e. Refuses e (places self.old) (token_of_run at run.now ∷ [])) }
     {
         let tree = word(*self.trees.allocator(), at, run)?;
         self.trees.push(tree)?;
         Ok(())
     }
 
-    /// The offset of the outermost list that is open.
+    // The offset of the outermost list that is open.
     fn first_open(&self) -> Option<u32>
-        ensures { MatchOption result (self.now.lists.items ≡ []) (λ at. unclosed (places self.now) ≡ Some (TextFault.Unclosed at)) }
+        ensures { MatchOption result (self.now.lists.items ≡ [])
+            (λ at. unclosed (places self.now) ≡ Some (TextFault.Unclosed at)) }
     {
         let first = self.lists.first()?;
         Some(first.at)
@@ -154,10 +162,11 @@ impl Reader {
     }
 }
 
-/// The name or the number that a run at this offset is.
+// The name or the number that a run at this offset is.
 fn word(alloc: Global, at: u32, run: &[u8]) -> Result<Tree, OrMemory<TextFault>>
     ensures tree { IfOk result (λ tree. IsWord tree (token_of_run at run.now)) }
-    ensures refused { IfErr result (λ e. (xs : List ℕ) → Refuses e xs (token_of_run at run.now ∷ [])) }
+    ensures refused { IfErr result
+        (λ e. (xs : List ℕ) → Refuses e xs (token_of_run at run.now ∷ [])) }
 {
     if let Some(text) = Name::from_bytes(Vec::from_slice(alloc, run)?) {
         return Ok(Tree::Name { at, text });

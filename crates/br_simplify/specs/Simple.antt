@@ -1,5 +1,6 @@
 -- Expressions, commands and functions in simpler forms that mean the same.
-use Rattle.std.specs.Prelude.{ℕ, ◌-◌, ◌^◌, Bool, true, false, ◌&&◌, List, map, Option, Some, None, unwrap_or, nat_lt, ◌==◌, if◌then◌else◌}
+use Rattle.std.specs.Prelude.{ℕ, ◌-◌, ◌^◌, Bool, true, false, ◌&&◌, List, map, Option}
+use Rattle.std.specs.Prelude.{Some, None, unwrap_or, nat_lt, ◌==◌, if◌then◌else◌}
 use Rattle.std.specs.Int.{w32, trailing_zeros}
 use Rattle.std.specs.Option.{option_and_then}
 use Rattle.br_words.specs.declared.operation.BinOp.{BinOp}
@@ -40,9 +41,11 @@ commutes op.Ltu = false
 -- the exponent of a power of two that is a word
 abbrev pub exponent : ℕ → Option ℕ
 exponent n =
-    if nat_lt (trailing_zeros w32 n) 32 && (2 ^ trailing_zeros w32 n == n) then Some (trailing_zeros w32 n) else None
+    if nat_lt (trailing_zeros w32 n) 32 && (2 ^ trailing_zeros w32 n == n)
+    then Some (trailing_zeros w32 n) else None
 
--- A product and a quotient by a power of two are shifts by its exponent, and a remainder is an `and`.
+-- A product and a quotient by a power of two are shifts by its
+-- exponent, and a remainder is an `and`.
 abbrev pub by_power : BinOp → ℕ → ℕ → Form
 by_power op.Mul n k = record { op = op.Slu; literal = k }
 by_power op.Divu n k = record { op = op.Sru; literal = k }
@@ -164,12 +167,13 @@ compares e = compares_step (out-Expr e)
 abbrev pub simple_test : Expr → Expr
 simple_test e = unwrap_or (option_and_then asked (asked e)) e
 
--- A test with a part for each answer. One of whether a word is 0 is a test of that word, and then the parts are
--- exchanged; one of a comparison stays, since the opposite comparison may be tested.
+-- A test with a part for each answer. One of whether a word is 0 is a test of that word, and then
+-- the parts are exchanged; one of a comparison stays, since the opposite comparison may be tested.
 abbrev pub test_of : Expr → Option Expr → Test
 test_of e None = record { word = e; exchanged = false }
 test_of e (Some a) =
-    if compares a then record { word = e; exchanged = false } else record { word = a; exchanged = true }
+    if compares a then record { word = e; exchanged = false }
+    else record { word = a; exchanged = true }
 
 abbrev pub part_test : Expr → Test
 part_test e = test_of (simple_test e) (asked (simple_test e))
@@ -221,13 +225,16 @@ abbrev pub command_step : Cmd-F Cmd → Cmd
 command_step Cmd-F.Skip = roll-Cmd Cmd-F.Skip
 command_step (Cmd-F.Set x e) = roll-Cmd (Cmd-F.Set x (simple_expression e))
 command_step (Cmd-F.Unset x) = roll-Cmd (Cmd-F.Unset x)
-command_step (Cmd-F.Store size a e) = roll-Cmd (Cmd-F.Store size (simple_expression a) (simple_expression e))
+command_step (Cmd-F.Store size a e) =
+    roll-Cmd (Cmd-F.Store size (simple_expression a) (simple_expression e))
 command_step (Cmd-F.Stackalloc x n body) = roll-Cmd (Cmd-F.Stackalloc x n body)
 command_step (Cmd-F.If e first second) = simple_if (simple_expression e) first second
 command_step (Cmd-F.While e body) = simple_while (simple_expression e) body
 command_step (Cmd-F.Seq body) = roll-Cmd (Cmd-F.Seq body)
-command_step (Cmd-F.Call at xs callee es) = roll-Cmd (Cmd-F.Call at xs callee (map simple_expression es))
-command_step (Cmd-F.Interact at xs action es) = roll-Cmd (Cmd-F.Interact at xs action (map simple_expression es))
+command_step (Cmd-F.Call at xs callee es) =
+    roll-Cmd (Cmd-F.Call at xs callee (map simple_expression es))
+command_step (Cmd-F.Interact at xs action es) =
+    roll-Cmd (Cmd-F.Interact at xs action (map simple_expression es))
 
 abbrev pub simple_command : Cmd → Cmd
 simple_command = fold-Cmd Cmd command_step

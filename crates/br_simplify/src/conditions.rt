@@ -2,7 +2,8 @@
 
 ghost use Rattle.std.specs.Prelude.{◌≡◌, false, is_some, unwrap_or};
 ghost use Rattle.std.specs.Option.{option_and_then, option_map};
-ghost use Rattle.br_simplify.specs.Simple.{asked, asks_zero, compares, is_comparison, part_test, simple_test};
+ghost use Rattle.br_simplify.specs.Simple.{asked, asks_zero, compares};
+ghost use Rattle.br_simplify.specs.Simple.{is_comparison, part_test, simple_test};
 
 use crate::expressions::literal;
 use br_syntax::Expr;
@@ -112,8 +113,8 @@ fn is_comparison(o: BinOp) -> bool
     }
 }
 
-// Whether an operation with this literal on its right asks whether the word on its left is 0.
-fn asks_zero(o: BinOp, right: Option<u32>) -> bool
+/// Whether an operation with this literal on its right asks whether the word on its left is 0.
+pub fn asks_zero(o: BinOp, right: Option<u32>) -> bool
     ensures { result ≡ asks_zero o right }
 {
     match o {

@@ -1,7 +1,8 @@
 // Expressions in their simplest form.
 
 ghost use Rattle.std.specs.Prelude.{◌≡◌, map, IfOk};
-ghost use Rattle.br_simplify.specs.Simple.{literal, simple_choice, simple_expression, simple_operation, with_literal};
+ghost use Rattle.br_simplify.specs.Simple.{literal, simple_choice, simple_expression};
+ghost use Rattle.br_simplify.specs.Simple.{simple_operation, with_literal};
 
 use crate::conditions::part_test;
 use crate::operations::{Form, commutes, simple_form};

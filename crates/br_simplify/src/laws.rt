@@ -1,5 +1,5 @@
-// What holds of programs in their simplest form. These functions do nothing: each contract is a law of
-// the definitions.
+// What holds of programs in their simplest form. These functions do nothing: each
+// contract is a law of the definitions.
 
 ghost use Rattle.std.specs.Prelude.{◌≡◌, ◌≤◌, ℕ, List};
 ghost use Rattle.std.specs.List.{Contains};

@@ -10,6 +10,7 @@ mod laws;
 mod operations;
 mod program;
 
+pub use conditions::asks_zero;
 pub use laws::{
     simple_programs_are_no_larger, simple_programs_keep_rules, simple_programs_mean_the_same,
 };

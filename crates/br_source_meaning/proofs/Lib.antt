@@ -5,7 +5,6 @@ pub mod Bounds
 pub mod Kept
 pub mod Deep
 pub mod Frames
-pub mod Named
 pub mod Numbers
 pub mod Forms
 pub mod Parts

@@ -7,7 +7,8 @@ pub use Rattle.br_bytes.specs.Runs.{returned, outcome_of, seen}
 use Rattle.br_syntax.specs.declared.program.Func.{Func}
 use Rattle.br_syntax.specs.Functions.{function_named}
 use Rattle.br_source_meaning.specs.Values.{Name, Locals, no_locals}
-use Rattle.br_source_meaning.specs.Runs.{State, OutOfFuel, Undefined, Callee, Returned, Stops, with_locals, run_all}
+use Rattle.br_source_meaning.specs.Runs.{State, OutOfFuel, Undefined, Callee, Returned, Stops}
+use Rattle.br_source_meaning.specs.Runs.{with_locals, run_all}
 
 -- the words of variables in turn, or None where one is not set
 abbrev pub words_of : List Name → Locals → Option (List ℕ)
@@ -21,15 +22,19 @@ words_of (x ∷ xs) locals = joined (locals x) (words_of xs locals)
 
 -- a function's body, with the arguments as its only variables
 abbrev pub run_function : Callee → Func → List ℕ → State → Returned
-run_function call f args s = returned (words_of f.results) (run_all call f.body (record s { locals = with_locals f.args args no_locals }))
+run_function call f args s =
+    returned (words_of f.results)
+    (run_all call f.body (record s { locals = with_locals f.args args no_locals }))
 
 -- enters a function, where there is one
 abbrev pub enter : Callee → Option Func → List ℕ → State → Returned
 enter call (Some f) args s = run_function call f args s
 enter call None args s = Stops Undefined s
 
--- The functions of a program, with calls at most `depth` deep. A call takes a unit of fuel before it
--- enters a function, so the fuel at the start is enough: where the depth is used up the fuel is too.
+-- The functions of a program, with calls at most `depth` deep. A call takes a unit of fuel before
+-- it
+-- enters a function, so the fuel at the start is enough: where the depth is used up the fuel is
+-- too.
 -- An accepted program calls no function that it does not have.
 abbrev pub function_of : List Func → ℕ → Callee
 function_of fs zero x args s = Stops OutOfFuel s
@@ -39,4 +44,12 @@ function_of fs (suc depth) x args s = enter (function_of fs depth) (function_nam
 abbrev pub call : List Func → Func → List ℕ → Memory → List ℕ → List Choice → ℕ → Called
 call fs f args m answers choices fuel =
     seen (run_function (function_of fs fuel) f args
-    (record { locals = no_locals; memory = m; trace = []; answers = answers; choices = choices; fuel = fuel }))
+    (record {
+      locals = no_locals;
+      memory = m;
+      trace = [];
+      answers = answers;
+      choices =
+          choices;
+      fuel = fuel;
+    }))

@@ -1,15 +1,16 @@
 -- How a run as it is kept leads to what the language says.
-use Rattle.std.specs.Prelude.{◌≡◌, ℕ, ◌+◌, ◌%◌, ◌^◌, Bool, ◌&&◌, nat_le, ◌==◌, length, List, Option, Some, None, Result, Ok, Err, ⊤}
+use Rattle.std.specs.Prelude.{◌≡◌, ℕ, ◌+◌, ◌%◌, ◌^◌, Bool, ◌&&◌, nat_le, ◌==◌, length, List, Option}
+use Rattle.std.specs.Prelude.{Some, None, Result, Ok, Err, ⊤}
 use Rattle.br_bytes.specs.declared.run.Choice.{Choice}
 use Rattle.br_words.specs.Layout.{stack_base, stack_end}
 use Rattle.br_bytes.specs.Buffers.{without_range}
 use Rattle.br_base.specs.declared.failure.OrMemory.{OrMemory}
 use Rattle.br_base.specs.declared.failure.OrMemory.TheVariants.{Memory, Fault}
 use Rattle.br_syntax.specs.declared.program.Func.{Func}
-use Rattle.br_source_meaning.specs.Runs.{State, End, Waiting, OutOfFuel, Undefined, NoChoice, Run, Goes, Ends, then_do, Callee, Returned, Returns, Stops}
+use Rattle.br_source_meaning.specs.Runs.{State, End, Waiting, OutOfFuel, Undefined, NoChoice, Run}
+use Rattle.br_source_meaning.specs.Runs.{Goes, Ends, then_do, Callee, Returned, Returns, Stops}
 use Rattle.br_source_meaning.specs.Calls.{function_of}
 use Rattle.br_source_meaning.specs.Values.{Name, Locals}
-use Rattle.br_source_meaning.specs.Names.{listed}
 use Rattle.br_source_meaning.specs.Variables.{locals_of}
 use Rattle.br_source_meaning.specs.declared.variables.Variables.{Variables}
 use Rattle.br_source_meaning.specs.declared.held.Held.{Held}
@@ -19,7 +20,7 @@ use Rattle.br_source_meaning.specs.declared.running.Running.{Running}
 
 -- the names of variables, by their numbers
 abbrev pub names_of : Variables → List Name
-names_of v = listed v.names.now.set
+names_of v = v.names.now
 
 -- the variables that are set
 abbrev pub locals_in : Variables → Locals
@@ -32,7 +33,15 @@ own_of r = names_of r.variables
 -- the state that a run is in
 abbrev pub state_of : Running → State
 state_of r =
-    record { locals = locals_in r.variables; memory = r.memory; trace = r.trace; answers = r.answers.now; choices = r.choices.now; fuel = r.fuel }
+    record {
+      locals = locals_in r.variables;
+      memory = r.memory;
+      trace = r.trace;
+      answers =
+          r.answers.now;
+      choices = r.choices.now;
+      fuel = r.fuel;
+    }
 
 abbrev pub end_of : Stop → End
 end_of (stop.Waiting a) = Waiting a
@@ -74,4 +83,5 @@ Enters (Err Memory) r body run = ⊤
 
 -- a choice that can be taken for a buffer of n bytes where its addresses are free
 abbrev pub can_stand : ℕ → Choice → Bool
-can_stand n c = (c.addr % 4 == 0) && (length c.bytes == n) && nat_le stack_base c.addr && nat_le (c.addr + n) stack_end
+can_stand n c = (c.addr % 4 == 0) && (length c.bytes == n) && nat_le stack_base c.addr && nat_le
+    (c.addr + n) stack_end

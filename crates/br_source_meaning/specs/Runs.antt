@@ -1,11 +1,15 @@
--- What commands do: big steps over the tree of a command. The language is a profile after bedrock2's
+-- What commands do: big steps over the tree of a command. The language is a profile after
+-- bedrock2's
 -- (Integration Verification across Software and Hardware for a Simple Embedded System, PLDI 2021).
 use Rattle.std.specs.Prelude.{ℕ, List, [], ◌∷◌, map, ◌==◌, codes}
 use Rattle.std.specs.Str.{bytes_eq}
 use Rattle.br_words.specs.Size.{size_of}
 use Rattle.br_bytes.specs.Memory.{put_number}
 use Rattle.br_bytes.specs.Runs as runs
-pub use Rattle.br_bytes.specs.Runs.{End, Waiting, OutOfFuel, Undefined, NoChoice, Goes, Ends, then_do, in_turn, with_defined, choose, with_fuel, happens, with_buffer, loop, read_device, write_device, Returns, Stops, back_in}
+pub use Rattle.br_bytes.specs.Runs.{End, Waiting, OutOfFuel, Undefined, NoChoice, Goes, Ends}
+pub use Rattle.br_bytes.specs.Runs.{then_do, in_turn, with_defined, choose, with_fuel, happens}
+pub use Rattle.br_bytes.specs.Runs.{with_buffer, loop, read_device, write_device, Returns, Stops}
+pub use Rattle.br_bytes.specs.Runs.{back_in}
 use Rattle.br_syntax.specs.declared.program.Cmd.{Cmd}
 use Rattle.br_syntax.specs.declared.program.Cmd.TheOpen.{Cmd-F}
 use Rattle.br_syntax.specs.declared.program.Cmd.TheFolds.{fold-Cmd}
@@ -60,7 +64,8 @@ with_locals (x ∷ xs) [] locals = locals
 -- a command, given what the commands in it do
 abbrev pub command_step : Callee → Cmd-F (State → Run) → State → Run
 command_step call Cmd-F.Skip s = Goes s
-command_step call (Cmd-F.Set x e) s = with_defined (value s.locals s.memory e) s (λ v. Goes (set_to x v s))
+command_step call (Cmd-F.Set x e) s =
+    with_defined (value s.locals s.memory e) s (λ v. Goes (set_to x v s))
 command_step call (Cmd-F.Unset x) s = Goes (record s { locals = without_local x s.locals })
 command_step call (Cmd-F.Store size a e) s =
     with_defined (value s.locals s.memory a) s (λ a.
@@ -68,11 +73,14 @@ command_step call (Cmd-F.Store size a e) s =
     with_defined (put_number s.memory a (size_of size) v) s (λ m. Goes (record s { memory = m }))))
 command_step call (Cmd-F.Stackalloc x n body) s = with_buffer (with_local x) n (in_turn body) s
 command_step call (Cmd-F.If e first second) s =
-    with_defined (value s.locals s.memory e) s (λ v. choose (v == 0) (in_turn second s) (in_turn first s))
-command_step call (Cmd-F.While e body) s = loop s.fuel (λ t. value t.locals t.memory e) (in_turn body) s
+    with_defined (value s.locals s.memory e) s
+    (λ v. choose (v == 0) (in_turn second s) (in_turn first s))
+command_step call (Cmd-F.While e body) s =
+    loop s.fuel (λ t. value t.locals t.memory e) (in_turn body) s
 command_step call (Cmd-F.Seq body) s = in_turn body s
 command_step call (Cmd-F.Call at xs callee es) s =
-    with_defined (values s.locals s.memory es) s (λ vs. with_fuel s (λ t. back_in (with_locals xs) s.locals (call callee vs t)))
+    with_defined (values s.locals s.memory es) s
+    (λ vs. with_fuel s (λ t. back_in (with_locals xs) s.locals (call callee vs t)))
 command_step call (Cmd-F.Interact at xs action es) s =
     with_defined (values s.locals s.memory es) s (λ vs. interact xs action vs s)
 

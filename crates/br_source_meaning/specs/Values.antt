@@ -44,7 +44,8 @@ abbrev pub value_step : Locals → Memory → Expr-F (Option ℕ) → Option ℕ
 value_step locals m (Expr-F.Literal n) = Some n
 value_step locals m (Expr-F.Var x) = locals x
 value_step locals m (Expr-F.Load size a) = option_and_then (λ a. get_number m a (size_of size)) a
-value_step locals m (Expr-F.Table size bytes i) = option_and_then (λ i. table_number bytes i (size_of size)) i
+value_step locals m (Expr-F.Table size bytes i) =
+    option_and_then (λ i. table_number bytes i (size_of size)) i
 value_step locals m (Expr-F.Op op a b) = both (value_of_op op) a b
 value_step locals m (Expr-F.Ite test a b) = selected test a b
 
@@ -55,4 +56,6 @@ value locals m = fold-Expr (Option ℕ) (value_step locals m)
 -- the words of expressions in turn, or None where one is undefined
 abbrev pub values : Locals → Memory → List Expr → Option (List ℕ)
 values locals m [] = Some []
-values locals m (e ∷ es) = option_and_then (λ v. option_and_then (λ vs. Some (v ∷ vs)) (values locals m es)) (value locals m e)
+values locals m (e ∷ es) =
+    option_and_then (λ v. option_and_then (λ vs. Some (v ∷ vs)) (values locals m es))
+    (value locals m e)

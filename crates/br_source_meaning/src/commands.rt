@@ -1,34 +1,44 @@
 // Commands by work that is pending: neither bodies nor calls are done by recursion.
 
-ghost use Rattle.std.specs.Prelude.{◌≡◌, ℕ, List, ◌+◌, ◌^◌, ◌<◌, IfOk, OnOk};
+ghost use Rattle.std.specs.Prelude.{◌≡◌, ℕ, List, ◌+◌, ◌^◌, ◌<◌, ◌≤◌, ◌==◌, IfOk, OnOk};
 ghost use Rattle.br_syntax.specs.declared.program.Cmd.TheVariants.{While};
 ghost use Rattle.br_bytes.specs.Left.{OnlyTakes};
-ghost use Rattle.br_source_meaning.specs.Runs.{Callee, Goes, run, run_all};
+ghost use Rattle.br_source_meaning.specs.Values.{with_local, value, values};
+ghost use Rattle.br_source_meaning.specs.Runs.{Callee, Goes, back_in, choose, interact, run};
+ghost use Rattle.br_source_meaning.specs.Runs.{run_all, with_buffer, with_defined, with_fuel};
+ghost use Rattle.br_source_meaning.specs.Runs.{with_locals};
 ghost use Rattle.br_source_meaning.specs.Calls.{run_function};
-ghost use Rattle.br_source_meaning.specs.Numbered.{named_expr, named_command, named_commands, named_function, target_name, HasSourceResults};
-ghost use Rattle.br_source_meaning.specs.Names.{listed};
+ghost use Rattle.br_source_meaning.specs.Names.{function_names, name_at, names_at};
+ghost use Rattle.br_source_meaning.specs.Numbered.{named_expr, named_exprs, named_command};
+ghost use Rattle.br_source_meaning.specs.Numbered.{named_commands, named_function, target_name};
+ghost use Rattle.br_source_meaning.specs.Numbered.{HasSourceResults};
 ghost use Rattle.br_source_meaning.specs.Running.{own_of, state_of, deep_calls, Leads, LeadsBack};
-ghost use Rattle.br_source_meaning.specs.Pending.{resume, after, finish, begins, LeavesWork, Resumes, Pauses, Starts, weight, frame_weight, weigh, room};
+ghost use Rattle.br_source_meaning.specs.Pending.{resume, after, finish, begins, LeavesWork};
+ghost use Rattle.br_source_meaning.specs.Pending.{Resumes, Pauses, Starts, weight, weights};
+ghost use Rattle.br_source_meaning.specs.Pending.{frame_weight, weigh, room};
 ghost use Rattle.br_source_meaning.specs.declared.pending.Turn.TheVariants as turn;
 
 use crate::functions::Functions;
-use crate::numbered::{NumberedCmd, Target};
+use crate::numbered::{NumberedCmd, NumberedExpr, Target};
 use crate::pending::{Block, Body, Frame, Looping, Turn, Work, lay_down};
 use crate::running::{Running, Stop};
 use crate::variables::Variables;
-use br_base::OrMemory;
+use br_base::{Name, OrMemory};
 use sqlite_items::Items;
 use std::alloc::Global;
 use std::mem;
 
 impl<'x, 'a> Running<'x, 'a> {
-    // A command as far as it goes at once, and what is left of it.
+    // A command as far as it goes at once, and what is left of it. Each form that does more than
+    // one thing is a function of its own.
     fn command(
         &mut self,
         alloc: Global,
         c: &'x NumberedCmd<'a>,
     ) -> Result<Work<'x, 'a>, OrMemory<Stop>>
-        ensures leads { (names : List (List ℕ)) (call : Callee) → OnlyTakes call → LeavesWork result names call self.new (run call (named_command names (own_of self.old) c.now) (state_of self.old)) }
+        ensures leads { (names : List (List ℕ)) (call : Callee) → OnlyTakes call
+            → LeavesWork result names call self.new
+            (run call (named_command names (own_of self.old) c.now) (state_of self.old)) }
         ensures light { IfOk result (λ w. room w < weight c.now) }
         ensures fuel { self.new.fuel ≡ self.old.fuel }
         ensures own { own_of self.new ≡ own_of self.old }
@@ -48,16 +58,13 @@ impl<'x, 'a> Running<'x, 'a> {
                 Ok(Work::Done)
             }
             NumberedCmd::Stackalloc(k, n, body) => {
-                let held = self.take_buffer(*k, *n)?;
-                let body = Body {
-                    commands: body.as_slice(),
-                };
-                Ok(Work::Buffer(Block { held, body }))
+                let body = body.as_slice();
+                self.buffer(*k, *n, body)
             }
             NumberedCmd::If(e, first, second) => {
-                let branch = if self.word(e)? == 0 { second } else { first };
-                let commands = branch.as_slice();
-                Ok(Work::Body(Body { commands }))
+                let first = first.as_slice();
+                let second = second.as_slice();
+                self.choice(e, first, second)
             }
             NumberedCmd::While(test, body) => {
                 let commands = body.as_slice();
@@ -73,8 +80,8 @@ impl<'x, 'a> Running<'x, 'a> {
                 args,
                 ..
             } => {
-                let words = self.words(alloc, args.as_slice())?;
-                Ok(Work::Turn(Turn::Call(results.as_slice(), callee, words)))
+                let results = results.as_slice();
+                self.call(alloc, results, callee, args.as_slice())
             }
             NumberedCmd::Interact {
                 results,
@@ -82,16 +89,104 @@ impl<'x, 'a> Running<'x, 'a> {
                 args,
                 ..
             } => {
-                let words = self.words(alloc, args.as_slice())?;
-                self.act(results.as_slice(), action, words.as_slice())?;
+                self.interact(alloc, results.as_slice(), action, args.as_slice())?;
                 Ok(Work::Done)
             }
         }
     }
 
+    // A buffer is in memory, and its body is left.
+    fn buffer(
+        &mut self,
+        k: usize,
+        n: u32,
+        body: &'x [NumberedCmd<'a>],
+    ) -> Result<Work<'x, 'a>, OrMemory<Stop>>
+        ensures leads { (names : List (List ℕ)) (call : Callee)
+            → LeavesWork result names call self.new
+            (with_buffer (with_local (name_at (own_of self.old) k)) n
+            (run_all call (named_commands names (own_of self.old) body.now)) (state_of self.old)) }
+        ensures light { IfOk result (λ w. room w ≤ 2 + weights body.now) }
+        ensures fuel { self.new.fuel ≡ self.old.fuel }
+        ensures own { own_of self.new ≡ own_of self.old }
+    {
+        let held = self.take_buffer(k, n)?;
+        let body = Body { commands: body };
+        Ok(Work::Buffer(Block { held, body }))
+    }
+
+    // One of two bodies is left.
+    fn choice(
+        &self,
+        e: &NumberedExpr,
+        first: &'x [NumberedCmd<'a>],
+        second: &'x [NumberedCmd<'a>],
+    ) -> Result<Work<'x, 'a>, OrMemory<Stop>>
+        ensures leads { (names : List (List ℕ)) (call : Callee)
+            → LeavesWork result names call self.now
+            (with_defined
+            (value (state_of self.now).locals self.now.memory (named_expr (own_of self.now) e.now))
+            (state_of self.now)
+            (λ v. choose (v == 0)
+            (run_all call (named_commands names (own_of self.now) second.now) (state_of self.now))
+            (run_all call (named_commands names (own_of self.now) first.now)
+            (state_of self.now)))) }
+        ensures light { IfOk result (λ w. room w ≤ 1 + (weights first.now + weights second.now)) }
+    {
+        let commands = if self.word(e)? == 0 { second } else { first };
+        Ok(Work::Body(Body { commands }))
+    }
+
+    // A call is left, with the words of its arguments.
+    fn call(
+        &self,
+        alloc: Global,
+        results: &'x [usize],
+        callee: &'x Target<'a>,
+        args: &[NumberedExpr],
+    ) -> Result<Work<'x, 'a>, OrMemory<Stop>>
+        ensures leads { (names : List (List ℕ)) (call : Callee)
+            → LeavesWork result names call self.now
+            (with_defined
+            (values (state_of self.now).locals self.now.memory
+            (named_exprs (own_of self.now) args.now)) (state_of self.now)
+            (λ vs. with_fuel (state_of self.now)
+            (λ t. back_in (with_locals (names_at (own_of self.now) results.now))
+            (state_of self.now).locals (call (target_name names callee.now) vs t)))) }
+        ensures light { IfOk result (λ w. room w < 1) }
+    {
+        let words = self.words(alloc, args)?;
+        Ok(Work::Turn(Turn::Call(results, callee, words)))
+    }
+
+    // An action on a device, with the words of its arguments.
+    fn interact(
+        &mut self,
+        alloc: Global,
+        results: &[usize],
+        action: &Name,
+        args: &[NumberedExpr],
+    ) -> Result<(), OrMemory<Stop>>
+        ensures leads { Leads result self.new
+            (with_defined
+            (values (state_of self.old).locals self.old.memory
+            (named_exprs (own_of self.old) args.now)) (state_of self.old)
+            (λ vs. interact (names_at (own_of self.old) results.now) action.now vs
+            (state_of self.old))) }
+        ensures fuel { self.new.fuel ≡ self.old.fuel }
+        ensures own { own_of self.new ≡ own_of self.old }
+    {
+        let words = self.words(alloc, args)?;
+        self.act(results, action, words.as_slice())
+    }
+
     // The test of a loop.
     fn test(&self, turn: Looping<'x, 'a>) -> Result<Work<'x, 'a>, OrMemory<Stop>>
-        ensures leads { (names : List (List ℕ)) (call : Callee) → OnlyTakes call → LeavesWork result names call self.now (run call (While (named_expr (own_of self.now) turn.entry.test.now) (named_commands names (own_of self.now) turn.entry.commands.now)) (state_of self.now)) }
+        ensures leads { (names : List (List ℕ)) (call : Callee) → OnlyTakes call
+            → LeavesWork result names call self.now
+            (run call
+            (While (named_expr (own_of self.now) turn.entry.test.now)
+            (named_commands names (own_of self.now) turn.entry.commands.now)) (state_of self.now)) }
         ensures light { IfOk result (λ w. room w < 1) }
     {
         if self.word(turn.test)? == 0 {
@@ -108,8 +203,11 @@ impl<'x, 'a> Running<'x, 'a> {
         pending: &mut Items<Frame<'x, 'a>>,
         frame: Frame<'x, 'a>,
     ) -> Result<Work<'x, 'a>, OrMemory<Stop>>
-        ensures leads { (names : List (List ℕ)) (call : Callee) → OnlyTakes call → Resumes result names call self.new pending.new pending.old (resume names (own_of self.old) call frame.entry (state_of self.old)) }
-        ensures light { IfOk result (λ w. weigh pending.new + room w < weigh pending.old + frame_weight frame.entry) }
+        ensures leads { (names : List (List ℕ)) (call : Callee) → OnlyTakes call
+            → Resumes result names call self.new pending.new pending.old
+            (resume names (own_of self.old) call frame.entry (state_of self.old)) }
+        ensures light { IfOk result
+            (λ w. weigh pending.new + room w < weigh pending.old + frame_weight frame.entry) }
         ensures fuel { self.new.fuel ≡ self.old.fuel }
         ensures own { OnOk result (own_of self.new ≡ after (own_of self.old) frame.entry) }
     {
@@ -141,7 +239,9 @@ impl<'x, 'a> Running<'x, 'a> {
         alloc: Global,
         pending: &mut Items<Frame<'x, 'a>>,
     ) -> Result<Option<Turn<'x, 'a>>, OrMemory<Stop>>
-        ensures pauses { (names : List (List ℕ)) (call : Callee) → OnlyTakes call → Pauses result names call self.new pending.new (finish names (own_of self.old) call pending.old (Goes (state_of self.old))) }
+        ensures pauses { (names : List (List ℕ)) (call : Callee) → OnlyTakes call
+            → Pauses result names call self.new pending.new
+            (finish names (own_of self.old) call pending.old (Goes (state_of self.old))) }
         ensures fuel { self.new.fuel ≡ self.old.fuel }
     {
         while let Some(frame) = pending.pop() {
@@ -164,7 +264,11 @@ impl<'x, 'a> Running<'x, 'a> {
         words: Items<u32>,
     ) -> Result<(), OrMemory<Stop>>
         requires { self.old.fuel < 2 ^ 32 }
-        ensures starts { Starts result (listed functions.now.program.now.names.set) (own_of self.old) (deep_calls functions.now.funcs.now) self.new pending.new pending.old (begins (listed functions.now.program.now.names.set) (own_of self.old) (deep_calls functions.now.funcs.now) (turn.Call to.entry callee.entry words) (state_of self.old)) }
+        ensures starts { Starts result (function_names functions.now.funcs.now) (own_of self.old)
+            (deep_calls functions.now.funcs.now) self.new pending.new pending.old
+            (begins (function_names functions.now.funcs.now) (own_of self.old)
+            (deep_calls functions.now.funcs.now) (turn.Call to.entry callee.entry words)
+            (state_of self.old)) }
         ensures fuel { self.new.fuel ≡ self.old.fuel }
     {
         let Some(f) = functions.callee(callee) else {
@@ -193,7 +297,10 @@ impl<'x, 'a> Running<'x, 'a> {
         turn: Turn<'x, 'a>,
     ) -> Result<(), OrMemory<Stop>>
         requires { self.old.fuel < 2 ^ 32 }
-        ensures starts { Starts result (listed functions.now.program.now.names.set) (own_of self.old) (deep_calls functions.now.funcs.now) self.new pending.new pending.old (begins (listed functions.now.program.now.names.set) (own_of self.old) (deep_calls functions.now.funcs.now) turn.entry (state_of self.old)) }
+        ensures starts { Starts result (function_names functions.now.funcs.now) (own_of self.old)
+            (deep_calls functions.now.funcs.now) self.new pending.new pending.old
+            (begins (function_names functions.now.funcs.now) (own_of self.old)
+            (deep_calls functions.now.funcs.now) turn.entry (state_of self.old)) }
         ensures fuel { self.new.fuel ≡ self.old.fuel }
     {
         match turn {
@@ -216,7 +323,10 @@ impl<'x, 'a> Running<'x, 'a> {
         functions: &Functions<'x, 'a>,
         cs: &'x [NumberedCmd<'a>],
     ) -> Result<(), OrMemory<Stop>>
-        ensures { Leads result self.new (run_all (deep_calls functions.now.funcs.now) (named_commands (listed functions.now.program.now.names.set) (own_of self.old) cs.now) (state_of self.old)) }
+        ensures { Leads result self.new
+            (run_all (deep_calls functions.now.funcs.now)
+            (named_commands (function_names functions.now.funcs.now) (own_of self.old) cs.now)
+            (state_of self.old)) }
     {
         let mut pending = Items::new(alloc);
         pending.push(Frame::Body(Body { commands: cs }))?;
@@ -235,7 +345,10 @@ impl<'x, 'a> Running<'x, 'a> {
         args: &[u32],
     ) -> Result<Items<u32>, OrMemory<Stop>>
         requires { HasSourceResults functions.now.program.now.entry }
-        ensures { LeadsBack result self.new (run_function (deep_calls functions.now.funcs.now) (named_function (listed functions.now.program.now.names.set) functions.now.program.now.entry) args.now (state_of self.old)) }
+        ensures { LeadsBack result self.new
+            (run_function (deep_calls functions.now.funcs.now)
+            (named_function (function_names functions.now.funcs.now)
+            functions.now.program.now.entry) args.now (state_of self.old)) }
     {
         let f = &functions.program.entry;
         let mut variables = Variables::new(alloc, &f.names)?;

@@ -2,10 +2,12 @@
 
 ghost use Rattle.std.specs.Prelude.{◌≡◌, ◌<◌, length, slice_get, Some, IfOk};
 ghost use Rattle.br_source_meaning.specs.Calls.{call};
+ghost use Rattle.br_source_meaning.specs.Names.{function_names};
+ghost use Rattle.br_source_meaning.specs.Numbered.{named_function, HasSourceResults};
 ghost use Rattle.br_source_meaning.specs.Finished.{called_of, outcome_at};
 
 use crate::functions::Functions;
-use crate::numbering::NumberedProgram;
+use crate::numbered_program::NumberedProgram;
 use crate::running::{Running, Stop};
 use crate::variables::Variables;
 use br_base::{NoMemory, OrMemory};
@@ -72,30 +74,56 @@ impl<'a> Interp<'a> {
     /// run is the one that the language defines, however deep commands and calls stand in one
     /// another.
     pub fn run(self, fuel: u32) -> Result<Finished, NoMemory>
-        ensures { IfOk result (λ done. called_of done ≡ call self.entry.program.now.funcs self.entry.func.now self.entry.args.now self.entry.memory self.entry.answers.now self.entry.choices.now fuel) }
+        ensures { IfOk result (λ done. called_of done
+            ≡ call self.entry.program.now.funcs self.entry.func.now self.entry.args.now
+            self.entry.memory self.entry.answers.now self.entry.choices.now fuel) }
     {
         let alloc = self.alloc;
-        let funcs = self.program.funcs.as_slice();
-        let program = NumberedProgram::new(alloc, funcs, self.func)?;
-        let functions = Functions::new(alloc, funcs, &program)?;
-        let mut running = Running {
-            variables: Variables::new(alloc, &program.entry.names)?,
-            memory: self.memory,
-            trace: Items::new(alloc),
-            answers: self.answers,
-            choices: self.choices,
-            fuel,
-        };
-        let outcome = match running.function(alloc, &functions, self.args) {
-            Ok(words) => Outcome::Done(words),
-            Err(OrMemory::Fault(stop)) => outcome_at(stop),
-            Err(OrMemory::Memory) => return Err(NoMemory),
-        };
-        Ok(Finished {
-            outcome,
-            trace: running.trace,
-            memory: running.memory,
-        })
+        let program = NumberedProgram::new(alloc, self.program.funcs.as_slice(), self.func)?;
+        let functions = Functions::new(alloc, &program)?;
+        called(self, &functions, fuel)
+    }
+}
+
+// The call, given the functions of its program, of which the one that is called has its parts.
+fn called<'x, 'a>(
+    interp: Interp<'a>,
+    functions: &Functions<'x, 'a>,
+    fuel: u32,
+) -> Result<Finished, NoMemory>
+    requires { HasSourceResults functions.now.program.now.entry }
+    ensures { IfOk result (λ done.
+        called_of done ≡ call functions.now.funcs.now
+        (named_function (function_names functions.now.funcs.now) functions.now.program.now.entry)
+        interp.entry.args.now interp.entry.memory interp.entry.answers.now interp.entry.choices.now
+        fuel) }
+{
+    let alloc = interp.alloc;
+    let args = interp.args;
+    let mut running = Running {
+        variables: Variables::new(alloc, &functions.program.entry.names)?,
+        memory: interp.memory,
+        trace: Items::new(alloc),
+        answers: interp.answers,
+        choices: interp.choices,
+        fuel,
+    };
+    match running.function(alloc, functions, args) {
+        Ok(words) => Ok(ended(running, Outcome::Done(words))),
+        Err(OrMemory::Fault(stop)) => Ok(ended(running, outcome_at(stop))),
+        Err(OrMemory::Memory) => Err(NoMemory),
+    }
+}
+
+// A run that ended so.
+fn ended(running: Running, outcome: Outcome) -> Finished
+    ensures { called_of result
+        ≡ record { outcome = outcome; trace = running.entry.trace; memory = running.entry.memory } }
+{
+    Finished {
+        outcome,
+        trace: running.trace,
+        memory: running.memory,
     }
 }
 

@@ -7,6 +7,7 @@ mod held;
 mod interp;
 mod laws;
 mod numbered;
+mod numbered_program;
 mod numbering;
 mod pending;
 mod running;

@@ -1,95 +1,62 @@
 // Functions of the source with numbers in place of names.
 
-ghost use Rattle.std.specs.Prelude.{◌≡◌, map, IfOk};
-ghost use Rattle.br_source_meaning.specs.Names.{listed, names_at, Numbers};
-ghost use Rattle.br_source_meaning.specs.Numbered.{target_name, named_expr, named_exprs, named_command, named_commands, named_function, HasSourceResults};
+ghost use Rattle.std.specs.Prelude.{◌≡◌, ℕ, List, map, IfOk};
+ghost use Rattle.br_syntax.specs.declared.program.Cmd.TheVariants.{Set, Unset, Store, Stackalloc};
+ghost use Rattle.br_syntax.specs.declared.program.Cmd.TheVariants.{If, While, Seq, Call, Interact};
+ghost use Rattle.br_source_meaning.specs.Names.{function_names};
+ghost use Rattle.br_source_meaning.specs.Numbered.{target_name, named_function, HasSourceResults};
+ghost use Rattle.br_source_meaning.specs.Numbered.{NumbersVariables, NumbersExpr, NumbersExprs};
+ghost use Rattle.br_source_meaning.specs.Numbered.{NumbersCommand, NumbersCommands};
 
 use crate::numbered::{NumberedCmd, NumberedExpr, NumberedFunc, Target};
 use crate::variable_names::VariableNames;
 use br_base::{Name, NoMemory};
+use br_numbering::Index;
 use br_syntax::{Cmd, Expr, Func};
-use indexmap::IndexSet;
+use br_words::Size;
 use sqlite_items::{Boxed, Items};
 use std::alloc::Global;
 
-/// The names of functions, each of which has its place among them as its number.
-#[derive(Drop)]
-pub(crate) struct Names<'a> {
-    pub(crate) set: IndexSet<&'a [u8]>,
-}
-
-impl<'a> Names<'a> {
-    /// The names of these functions.
-    pub(crate) fn new(alloc: Global, funcs: &'a [Func]) -> Result<Names<'a>, NoMemory> {
-        let mut set = IndexSet::new(alloc);
-        for f in funcs {
-            set.insert(f.name.bytes())?;
-        }
-        Ok(Names { set })
-    }
-
-    // The function of a name.
-    fn target<'b>(&self, x: &'b Name) -> Target<'b>
-        ensures { target_name (listed self.now.set) result ≡ x.now }
-    {
-        match self.set.get_index_of(x.bytes()) {
-            Some(k) => Target::Number(k),
-            None => Target::Missing(x),
-        }
+// The function that has a name, by number.
+fn target<'b>(index: &Index, x: &'b Name) -> Target<'b>
+    ensures { target_name (function_names index.now.funcs.now) result ≡ x.now }
+{
+    match index.number(x.bytes()) {
+        Some(k) => Target::Number(k),
+        None => Target::Missing(x),
     }
 }
 
-/// A program and the function that is called first, with numbers in place of names.
-#[derive(Drop)]
-pub(crate) struct NumberedProgram<'a> {
-    pub(crate) names: Names<'a>,
-    pub(crate) funcs: Items<NumberedFunc<'a>>,
-    pub(crate) entry: NumberedFunc<'a>,
-}
-
-impl<'a> NumberedProgram<'a> {
-    pub(crate) fn new(
-        alloc: Global,
-        funcs: &'a [Func],
-        entry: &'a Func,
-    ) -> Result<NumberedProgram<'a>, NoMemory>
-        ensures funcs { IfOk result (λ p. map (named_function (listed p.names.set)) p.funcs ≡ funcs.now) }
-        ensures entry { IfOk result (λ p. named_function (listed p.names.set) p.entry ≡ entry.now) }
-        ensures results { IfOk result (λ p. HasSourceResults p.entry) }
-    {
-        let names = Names::new(alloc, funcs)?;
-        let funcs = functions(alloc, &names, funcs)?;
-        let entry = function(alloc, &names, entry)?;
-        Ok(NumberedProgram {
-            names,
-            funcs,
-            entry,
-        })
-    }
-}
-
-fn functions<'a>(
+/// The functions of a program.
+pub(crate) fn functions<'a>(
     alloc: Global,
-    names: &Names,
+    index: &Index,
     funcs: &'a [Func],
 ) -> Result<Items<NumberedFunc<'a>>, NoMemory>
-    ensures { IfOk result (λ fs. map (named_function (listed names.now.set)) fs ≡ funcs.now) }
+    ensures { IfOk result (λ fs. map (named_function (function_names index.now.funcs.now)) fs
+        ≡ funcs.now) }
 {
     let mut numbered = Items::new(alloc);
     for f in funcs {
-        numbered.push(function(alloc, names, f)?)?;
+        numbered.push(function(alloc, index, f)?)?;
     }
     Ok(numbered)
 }
 
-fn function<'a>(alloc: Global, names: &Names, func: &'a Func) -> Result<NumberedFunc<'a>, NoMemory>
-    ensures named { IfOk result (λ f. named_function (listed names.now.set) f ≡ func.now) }
+/// A function, with the names of its variables.
+pub(crate) fn function<'a>(
+    alloc: Global,
+    index: &Index,
+    func: &'a Func,
+) -> Result<NumberedFunc<'a>, NoMemory>
+    ensures named { IfOk result
+        (λ f. named_function (function_names index.now.funcs.now) f ≡ func.now) }
     ensures results { IfOk result (λ f. HasSourceResults f) }
 {
     let mut own = VariableNames::new(alloc)?;
     let args = variables(alloc, &mut own, func.args.as_slice())?;
     let results = variables(alloc, &mut own, func.results.as_slice())?;
-    let body = commands(alloc, names, &mut own, func.body.as_slice())?;
+    let body = commands(alloc, index, &mut own, func.body.as_slice())?;
     Ok(NumberedFunc {
         func,
         names: own,
@@ -104,7 +71,7 @@ fn variables<'a>(
     own: &mut VariableNames<'a>,
     xs: &'a [Name],
 ) -> Result<Items<usize>, NoMemory>
-    ensures { IfOk result (λ ks. Numbers (listed own.old.set) (listed own.new.set) (λ later. names_at later ks) xs.now) }
+    ensures { IfOk result (λ ks. NumbersVariables own.old own.new ks xs.now) }
 {
     let mut numbered = Items::new(alloc);
     for x in xs {
@@ -119,7 +86,7 @@ fn expression<'a>(
     own: &mut VariableNames<'a>,
     e: &'a Expr,
 ) -> Result<NumberedExpr<'a>, NoMemory>
-    ensures { IfOk result (λ n. Numbers (listed own.old.set) (listed own.new.set) (λ later. named_expr later n) e.now) }
+    ensures { IfOk result (λ n. NumbersExpr own.old own.new n e.now) }
 {
     match e {
         Expr::Literal(n) => Ok(NumberedExpr::Literal(*n)),
@@ -152,7 +119,7 @@ fn boxed<'a>(
     own: &mut VariableNames<'a>,
     e: &'a Boxed<Expr>,
 ) -> Result<Boxed<NumberedExpr<'a>>, NoMemory>
-    ensures { IfOk result (λ n. Numbers (listed own.old.set) (listed own.new.set) (λ later. named_expr later n) e.now) }
+    ensures { IfOk result (λ n. NumbersExpr own.old own.new n e.now) }
 {
     Ok(Boxed::new(alloc, expression(alloc, own, e.get())?)?)
 }
@@ -162,7 +129,7 @@ fn expressions<'a>(
     own: &mut VariableNames<'a>,
     es: &'a [Expr],
 ) -> Result<Items<NumberedExpr<'a>>, NoMemory>
-    ensures { IfOk result (λ ns. Numbers (listed own.old.set) (listed own.new.set) (λ later. named_exprs later ns) es.now) }
+    ensures { IfOk result (λ ns. NumbersExprs own.old own.new ns es.now) }
 {
     let mut numbered = Items::new(alloc);
     for e in es {
@@ -174,90 +141,204 @@ fn expressions<'a>(
 #[cycle(numbering)]
 fn commands<'a>(
     alloc: Global,
-    names: &Names,
+    index: &Index,
     own: &mut VariableNames<'a>,
     cs: &'a [Cmd],
 ) -> Result<Items<NumberedCmd<'a>>, NoMemory>
-    ensures { IfOk result (λ ns. Numbers (listed own.old.set) (listed own.new.set) (λ later. named_commands (listed names.now.set) later ns) cs.now) }
+    ensures { IfOk result (λ ns. NumbersCommands (function_names index.now.funcs.now) own.old
+        own.new ns cs.now) }
 {
     let mut numbered = Items::new(alloc);
     for c in cs {
-        numbered.push(command(alloc, names, own, c)?)?;
+        numbered.push(command(alloc, index, own, c)?)?;
     }
     Ok(numbered)
 }
 
+// A command. Each form that has parts is a function of its own.
 #[cycle(numbering)]
 fn command<'a>(
     alloc: Global,
-    names: &Names,
+    index: &Index,
     own: &mut VariableNames<'a>,
     c: &'a Cmd,
 ) -> Result<NumberedCmd<'a>, NoMemory>
-    ensures { IfOk result (λ n. Numbers (listed own.old.set) (listed own.new.set) (λ later. named_command (listed names.now.set) later n) c.now) }
+    ensures { IfOk result (λ n. NumbersCommand (function_names index.now.funcs.now) own.old own.new
+        n c.now) }
 {
     match c {
         Cmd::Skip => Ok(NumberedCmd::Skip),
-        Cmd::Set(x, e) => {
-            let k = own.number(x)?;
-            let e = expression(alloc, own, e)?;
-            Ok(NumberedCmd::Set(k, e))
-        }
-        Cmd::Unset(x) => Ok(NumberedCmd::Unset(own.number(x)?)),
-        Cmd::Store(size, a, e) => {
-            let a = expression(alloc, own, a)?;
-            let e = expression(alloc, own, e)?;
-            Ok(NumberedCmd::Store(*size, a, e))
-        }
-        Cmd::Stackalloc(x, n, inner) => {
-            let k = own.number(x)?;
-            let body = commands(alloc, names, own, inner.as_slice())?;
-            Ok(NumberedCmd::Stackalloc(k, *n, body))
-        }
-        Cmd::If(e, first, second) => {
-            let e = expression(alloc, own, e)?;
-            let taken = commands(alloc, names, own, first.as_slice())?;
-            let other = commands(alloc, names, own, second.as_slice())?;
-            Ok(NumberedCmd::If(e, taken, other))
-        }
-        Cmd::While(e, inner) => {
-            let e = expression(alloc, own, e)?;
-            let body = commands(alloc, names, own, inner.as_slice())?;
-            Ok(NumberedCmd::While(e, body))
-        }
-        Cmd::Seq(inner) => {
-            let body = commands(alloc, names, own, inner.as_slice())?;
-            Ok(NumberedCmd::Seq(body))
-        }
+        Cmd::Set(x, e) => set(alloc, own, x, e),
+        Cmd::Unset(x) => unset(own, x),
+        Cmd::Store(size, a, e) => store(alloc, own, *size, a, e),
+        Cmd::Stackalloc(x, n, body) => buffer(alloc, index, own, x, *n, body.as_slice()),
+        Cmd::If(e, first, second) => choice(
+            alloc,
+            index,
+            own,
+            e,
+            first.as_slice(),
+            second.as_slice(),
+        ),
+        Cmd::While(e, body) => repetition(alloc, index, own, e, body.as_slice()),
+        Cmd::Seq(body) => sequence(alloc, index, own, body.as_slice()),
         Cmd::Call {
             at,
             results,
             callee,
             args,
         } => {
-            let results = variables(alloc, own, results.as_slice())?;
-            let args = expressions(alloc, own, args.as_slice())?;
-            Ok(NumberedCmd::Call {
-                at: *at,
-                results,
-                callee: names.target(callee),
-                args,
-            })
+            let callee = target(index, callee);
+            call(alloc, own, *at, results.as_slice(), callee, args.as_slice())
         }
         Cmd::Interact {
             at,
             results,
             action,
             args,
-        } => {
-            let results = variables(alloc, own, results.as_slice())?;
-            let args = expressions(alloc, own, args.as_slice())?;
-            Ok(NumberedCmd::Interact {
-                at: *at,
-                results,
-                action,
-                args,
-            })
-        }
+        } => interact(alloc, own, *at, results.as_slice(), action, args.as_slice()),
     }
+}
+
+#[cycle(numbering)]
+fn buffer<'a>(
+    alloc: Global,
+    index: &Index,
+    own: &mut VariableNames<'a>,
+    x: &'a Name,
+    n: u32,
+    body: &'a [Cmd],
+) -> Result<NumberedCmd<'a>, NoMemory>
+    ensures { IfOk result (λ c. NumbersCommand (function_names index.now.funcs.now) own.old own.new
+        c (Stackalloc x.now n body.now)) }
+{
+    let k = own.number(x)?;
+    let body = commands(alloc, index, own, body)?;
+    Ok(NumberedCmd::Stackalloc(k, n, body))
+}
+
+#[cycle(numbering)]
+fn choice<'a>(
+    alloc: Global,
+    index: &Index,
+    own: &mut VariableNames<'a>,
+    e: &'a Expr,
+    first: &'a [Cmd],
+    second: &'a [Cmd],
+) -> Result<NumberedCmd<'a>, NoMemory>
+    ensures { IfOk result (λ c. NumbersCommand (function_names index.now.funcs.now) own.old own.new
+        c (If e.now first.now second.now)) }
+{
+    let e = expression(alloc, own, e)?;
+    let first = commands(alloc, index, own, first)?;
+    let second = commands(alloc, index, own, second)?;
+    Ok(NumberedCmd::If(e, first, second))
+}
+
+#[cycle(numbering)]
+fn repetition<'a>(
+    alloc: Global,
+    index: &Index,
+    own: &mut VariableNames<'a>,
+    e: &'a Expr,
+    body: &'a [Cmd],
+) -> Result<NumberedCmd<'a>, NoMemory>
+    ensures { IfOk result (λ c. NumbersCommand (function_names index.now.funcs.now) own.old own.new
+        c (While e.now body.now)) }
+{
+    let e = expression(alloc, own, e)?;
+    let body = commands(alloc, index, own, body)?;
+    Ok(NumberedCmd::While(e, body))
+}
+
+#[cycle(numbering)]
+fn sequence<'a>(
+    alloc: Global,
+    index: &Index,
+    own: &mut VariableNames<'a>,
+    body: &'a [Cmd],
+) -> Result<NumberedCmd<'a>, NoMemory>
+    ensures { IfOk result (λ c. NumbersCommand (function_names index.now.funcs.now) own.old own.new
+        c (Seq body.now)) }
+{
+    Ok(NumberedCmd::Seq(commands(alloc, index, own, body)?))
+}
+
+fn set<'a>(
+    alloc: Global,
+    own: &mut VariableNames<'a>,
+    x: &'a Name,
+    e: &'a Expr,
+) -> Result<NumberedCmd<'a>, NoMemory>
+    ensures { IfOk result (λ c. (names : List (List ℕ))
+        → NumbersCommand names own.old own.new c (Set x.now e.now)) }
+{
+    let k = own.number(x)?;
+    let e = expression(alloc, own, e)?;
+    Ok(NumberedCmd::Set(k, e))
+}
+
+fn unset<'a>(own: &mut VariableNames<'a>, x: &'a Name) -> Result<NumberedCmd<'a>, NoMemory>
+    ensures { IfOk result (λ c. (names : List (List ℕ))
+        → NumbersCommand names own.old own.new c (Unset x.now)) }
+{
+    Ok(NumberedCmd::Unset(own.number(x)?))
+}
+
+fn store<'a>(
+    alloc: Global,
+    own: &mut VariableNames<'a>,
+    size: Size,
+    a: &'a Expr,
+    e: &'a Expr,
+) -> Result<NumberedCmd<'a>, NoMemory>
+    ensures { IfOk result (λ c. (names : List (List ℕ))
+        → NumbersCommand names own.old own.new c (Store size a.now e.now)) }
+{
+    let a = expression(alloc, own, a)?;
+    let e = expression(alloc, own, e)?;
+    Ok(NumberedCmd::Store(size, a, e))
+}
+
+fn call<'a>(
+    alloc: Global,
+    own: &mut VariableNames<'a>,
+    at: u32,
+    results: &'a [Name],
+    callee: Target<'a>,
+    args: &'a [Expr],
+) -> Result<NumberedCmd<'a>, NoMemory>
+    ensures { IfOk result (λ c. (names : List (List ℕ))
+        → NumbersCommand names own.old own.new c
+        (Call at results.now (target_name names callee.entry) args.now)) }
+{
+    let results = variables(alloc, own, results)?;
+    let args = expressions(alloc, own, args)?;
+    Ok(NumberedCmd::Call {
+        at,
+        results,
+        callee,
+        args,
+    })
+}
+
+fn interact<'a>(
+    alloc: Global,
+    own: &mut VariableNames<'a>,
+    at: u32,
+    results: &'a [Name],
+    action: &'a Name,
+    args: &'a [Expr],
+) -> Result<NumberedCmd<'a>, NoMemory>
+    ensures { IfOk result (λ c. (names : List (List ℕ))
+        → NumbersCommand names own.old own.new c (Interact at results.now action.now args.now)) }
+{
+    let results = variables(alloc, own, results)?;
+    let args = expressions(alloc, own, args)?;
+    Ok(NumberedCmd::Interact {
+        at,
+        results,
+        action,
+        args,
+    })
 }

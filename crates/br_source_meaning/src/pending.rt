@@ -74,7 +74,8 @@ pub(crate) fn lay_down<'x, 'a>(
     pending: &mut Items<Frame<'x, 'a>>,
     work: Work<'x, 'a>,
 ) -> Result<Option<Turn<'x, 'a>>, NoMemory>
-    ensures same { (names own : List (List ℕ)) (call : Callee) (s : State) → IsLaidDown result names own call pending.new pending.old work.entry s }
+    ensures same { (names own : List (List ℕ)) (call : Callee) (s : State)
+        → IsLaidDown result names own call pending.new pending.old work.entry s }
     ensures light { IfOk result (λ _. weigh pending.new ≤ weigh pending.old + room work.entry) }
 {
     match work {

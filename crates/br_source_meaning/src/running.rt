@@ -4,11 +4,14 @@ ghost use Rattle.std.specs.Prelude.{◌≡◌, ℕ, ◌^◌, ◌<◌, List};
 ghost use Rattle.br_words.specs.Size.{size_of};
 ghost use Rattle.br_bytes.specs.Memory.{put_number};
 ghost use Rattle.br_source_meaning.specs.Values.{with_local, value, values};
-ghost use Rattle.br_source_meaning.specs.Runs.{State, Run, Goes, with_defined, with_fuel, with_buffer, set_to, read_device, write_device, interact};
+ghost use Rattle.br_source_meaning.specs.Runs.{State, Run, Goes, with_defined, with_fuel};
+ghost use Rattle.br_source_meaning.specs.Runs.{with_buffer, set_to, read_device, write_device};
+ghost use Rattle.br_source_meaning.specs.Runs.{interact};
 ghost use Rattle.br_source_meaning.specs.Calls.{words_of};
 ghost use Rattle.br_source_meaning.specs.Names.{name_at, names_at};
 ghost use Rattle.br_source_meaning.specs.Numbered.{named_expr, named_exprs};
-ghost use Rattle.br_source_meaning.specs.Running.{own_of, state_of, Leads, Enters, IsDefined, can_stand};
+ghost use Rattle.br_source_meaning.specs.Running.{own_of, state_of, Leads, Enters, IsDefined};
+ghost use Rattle.br_source_meaning.specs.Running.{can_stand};
 
 use crate::held::Held;
 use crate::numbered::NumberedExpr;
@@ -46,9 +49,11 @@ pub(crate) struct Running<'x, 'a> {
 }
 
 impl<'x, 'a> Running<'x, 'a> {
-    // The word of an expression; one that has none is undefined.
+    /// The word of an expression; one that has none is undefined.
     pub(crate) fn word(&self, e: &NumberedExpr) -> Result<u32, OrMemory<Stop>>
-        ensures { IsDefined result (value (state_of self.now).locals self.now.memory (named_expr (own_of self.now) e.now)) }
+        ensures { IsDefined result
+            (value (state_of self.now).locals self.now.memory
+            (named_expr (own_of self.now) e.now)) }
     {
         match value(&self.variables, &self.memory, e) {
             Some(word) => Ok(word),
@@ -56,13 +61,15 @@ impl<'x, 'a> Running<'x, 'a> {
         }
     }
 
-    // The words of expressions in turn; one that has none is undefined.
+    /// The words of expressions in turn; one that has none is undefined.
     pub(crate) fn words(
         &self,
         alloc: Global,
         es: &[NumberedExpr],
     ) -> Result<Items<u32>, OrMemory<Stop>>
-        ensures { IsDefined result (values (state_of self.now).locals self.now.memory (named_exprs (own_of self.now) es.now)) }
+        ensures { IsDefined result
+            (values (state_of self.now).locals self.now.memory
+            (named_exprs (own_of self.now) es.now)) }
     {
         match values(alloc, &self.variables, &self.memory, es)? {
             Some(words) => Ok(Items::from_vec(words)),
@@ -70,7 +77,7 @@ impl<'x, 'a> Running<'x, 'a> {
         }
     }
 
-    // Takes a unit of fuel.
+    /// Takes a unit of fuel.
     pub(crate) fn spend(&mut self) -> Result<(), OrMemory<Stop>>
         ensures leads { Leads result self.new (with_fuel (state_of self.old) Goes) }
         ensures fits { self.new.fuel < 2 ^ 32 }
@@ -83,9 +90,13 @@ impl<'x, 'a> Running<'x, 'a> {
         Ok(())
     }
 
-    // Sets a variable to the word of an expression.
+    /// Sets a variable to the word of an expression.
     pub(crate) fn assign(&mut self, k: usize, e: &NumberedExpr) -> Result<(), OrMemory<Stop>>
-        ensures leads { Leads result self.new (with_defined (value (state_of self.old).locals self.old.memory (named_expr (own_of self.old) e.now)) (state_of self.old) (λ v. Goes (set_to (name_at (own_of self.old) k) v (state_of self.old)))) }
+        ensures leads { Leads result self.new
+            (with_defined
+            (value (state_of self.old).locals self.old.memory (named_expr (own_of self.old) e.now))
+            (state_of self.old)
+            (λ v. Goes (set_to (name_at (own_of self.old) k) v (state_of self.old)))) }
         ensures fuel { self.new.fuel ≡ self.old.fuel }
         ensures own { own_of self.new ≡ own_of self.old }
     {
@@ -94,7 +105,7 @@ impl<'x, 'a> Running<'x, 'a> {
         Ok(())
     }
 
-    // Stores the low bytes of a word.
+    /// Stores the low bytes of a word.
     pub(crate) fn store(
         &mut self,
         size: Size,
@@ -102,9 +113,12 @@ impl<'x, 'a> Running<'x, 'a> {
         e: &NumberedExpr,
     ) -> Result<(), OrMemory<Stop>>
         ensures leads { Leads result self.new (
-            with_defined (value (state_of self.old).locals self.old.memory (named_expr (own_of self.old) a.now)) (state_of self.old) (λ a.
-            with_defined (value (state_of self.old).locals self.old.memory (named_expr (own_of self.old) e.now)) (state_of self.old) (λ v.
-            with_defined (put_number self.old.memory a (size_of size) v) (state_of self.old) (λ m. Goes (record (state_of self.old) { memory = m }))))) }
+            with_defined (value (state_of self.old).locals self.old.memory
+            (named_expr (own_of self.old) a.now)) (state_of self.old) (λ a.
+            with_defined (value (state_of self.old).locals self.old.memory
+            (named_expr (own_of self.old) e.now)) (state_of self.old) (λ v.
+            with_defined (put_number self.old.memory a (size_of size) v) (state_of self.old)
+            (λ m. Goes (record (state_of self.old) { memory = m }))))) }
         ensures fuel { self.new.fuel ≡ self.old.fuel }
         ensures own { own_of self.new ≡ own_of self.old }
     {
@@ -119,7 +133,8 @@ impl<'x, 'a> Running<'x, 'a> {
 
     // Reads a device word into a variable.
     fn read(&mut self, k: usize, a: u32) -> Result<(), OrMemory<Stop>>
-        ensures leads { Leads result self.new (read_device (with_local (name_at (own_of self.old) k)) a (state_of self.old)) }
+        ensures leads { Leads result self.new
+            (read_device (with_local (name_at (own_of self.old) k)) a (state_of self.old)) }
         ensures fuel { self.new.fuel ≡ self.old.fuel }
         ensures own { own_of self.new ≡ own_of self.old }
     {
@@ -148,14 +163,16 @@ impl<'x, 'a> Running<'x, 'a> {
         Ok(())
     }
 
-    // An action on a device, with these words.
+    /// An action on a device, with these words.
     pub(crate) fn act(
         &mut self,
         results: &[usize],
         action: &Name,
         words: &[u32],
     ) -> Result<(), OrMemory<Stop>>
-        ensures leads { Leads result self.new (interact (names_at (own_of self.old) results.now) action.now words.now (state_of self.old)) }
+        ensures leads { Leads result self.new
+            (interact (names_at (own_of self.old) results.now) action.now words.now
+            (state_of self.old)) }
         ensures fuel { self.new.fuel ≡ self.old.fuel }
         ensures own { own_of self.new ≡ own_of self.old }
     {
@@ -171,10 +188,12 @@ impl<'x, 'a> Running<'x, 'a> {
         Err(OrMemory::Fault(Stop::Undefined))
     }
 
-    // Takes the next choice for a buffer of n bytes: it is in memory then, and its address in the
-    // variable.
+    /// Takes the next choice for a buffer of n bytes: it is in memory then, and its address in the
+    /// variable.
     pub(crate) fn take_buffer(&mut self, k: usize, n: u32) -> Result<Held, OrMemory<Stop>>
-        ensures enters { (body : State → Run) → Enters result self.new body (with_buffer (with_local (name_at (own_of self.old) k)) n body (state_of self.old)) }
+        ensures enters { (body : State → Run)
+            → Enters result self.new body
+            (with_buffer (with_local (name_at (own_of self.old) k)) n body (state_of self.old)) }
         ensures fuel { self.new.fuel ≡ self.old.fuel }
         ensures own { own_of self.new ≡ own_of self.old }
     {
@@ -197,9 +216,10 @@ impl<'x, 'a> Running<'x, 'a> {
         })
     }
 
-    // The words of a function's results.
+    /// The words of a function's results.
     pub(crate) fn results(&self, alloc: Global, ks: &[usize]) -> Result<Items<u32>, OrMemory<Stop>>
-        ensures { IsDefined result (words_of (names_at (own_of self.now) ks.now) (state_of self.now).locals) }
+        ensures { IsDefined result
+            (words_of (names_at (own_of self.now) ks.now) (state_of self.now).locals) }
     {
         let mut words = Items::new(alloc);
         for k in ks {
@@ -211,7 +231,7 @@ impl<'x, 'a> Running<'x, 'a> {
         Ok(words)
     }
 
-    // The words of variables by their names.
+    /// The words of variables by their names.
     pub(crate) fn named_results(
         &self,
         alloc: Global,

@@ -17,7 +17,8 @@ use std::alloc::Global;
 
 /// The word that an expression stands for, where it stands for one.
 pub(crate) fn value(variables: &Variables, memory: &ByteMap, e: &NumberedExpr) -> Option<u32>
-    ensures { result ≡ value (locals_in variables.now) memory.now (named_expr (names_of variables.now) e.now) }
+    ensures { result ≡ value (locals_in variables.now) memory.now
+        (named_expr (names_of variables.now) e.now) }
 {
     match e {
         NumberedExpr::Literal(n) => Some(*n),
@@ -76,7 +77,9 @@ pub(crate) fn values(
     memory: &ByteMap,
     es: &[NumberedExpr],
 ) -> Result<Option<Vec<u32>>, NoMemory>
-    ensures { IfOk result (λ vs. option_map (λ v. v.items) vs ≡ values (locals_in variables.now) memory.now (named_exprs (names_of variables.now) es.now)) }
+    ensures { IfOk result (λ vs. option_map (λ v. v.items) vs
+        ≡ values (locals_in variables.now) memory.now
+        (named_exprs (names_of variables.now) es.now)) }
 {
     let mut words = Vec::new(alloc);
     for e in es {

@@ -1,5 +1,6 @@
 -- Flat bulk of functions in register form: at most 24 times the units of those that they come from.
-use Rattle.std.proofs.Common.{◌≡◌, ℕ, zero, suc, ◌+◌, ◌*◌, ◌≤◌, List, [], ◌∷◌, ◌++◌, map, length, Bool, true, false, if◌then◌else◌, nat_lt, refl, sym, ap, subst, ◌∙◌, arith, pos}
+use Rattle.std.proofs.Common.{◌≡◌, ℕ, zero, suc, ◌+◌, ◌*◌, ◌≤◌, List, [], ◌∷◌, ◌++◌, map, length, Bool}
+use Rattle.std.proofs.Common.{true, false, if◌then◌else◌, nat_lt, refl, sym, ap, subst, ◌∙◌, arith, pos}
 use Rattle.std.specs.Prelude.{sum}
 use Rattle.br_words.specs.declared.operation.BinOp.TheVariants.{Add}
 use Rattle.br_words.specs.declared.size.Size.TheVariants.{Four}
@@ -13,9 +14,12 @@ use Rattle.br_flatimp.specs.declared.program.Stmt.TheViews.{roll-Stmt}
 use Rattle.br_flatimp.specs.declared.program.Stmt.TheFolds.{fold-roll-Stmt, ind-Stmt}
 use Rattle.br_flatimp.specs.declared.program.FlatFunc.{FlatFunc}
 use Rattle.br_flatimp.specs.Parts.{parts}
-use Rattle.br_flatimp.specs.Sizes.{words_for, own_units, added, units, own_words, statement_bulk, function_bulk, flat_bulk}
+use Rattle.br_flatimp.specs.Sizes.{words_for, own_units, added, units, own_words}
+use Rattle.br_flatimp.specs.Sizes.{statement_bulk, function_bulk, flat_bulk}
 use Rattle.br_spill.proofs.Sizes.{sum_cons}
-use Rattle.br_spill.specs.Spill.{Layout, fetch, put_away, bring, at, keep, put, pass, copy, bring_operand, operand_at, bring_test, test_at, in_order, passes, takes, joined, spilled_step, spilled, in_buffer, spilled_function, SpilledFunctions}
+use Rattle.br_spill.specs.Spill.{Layout, fetch, put_away, bring, at, keep, put, pass, copy, bring_operand}
+use Rattle.br_spill.specs.Spill.{operand_at, bring_test, test_at, in_order, passes, takes, joined}
+use Rattle.br_spill.specs.Spill.{spilled_step, spilled, in_buffer, spilled_function, SpilledFunctions}
 use Rattle.br_spill.specs.declared.place.Place.{Place}
 use Rattle.br_spill.specs.declared.place.Place.TheVariants.{Register, Slot}
 
@@ -42,18 +46,22 @@ bulk-append (x ∷ xs) ys =
     omega (arith, whole, front, rest)
 
 -- a statement in front of others
-bulk-first : (y : Stmt-F Stmt) (xs : List Stmt) → bulk (roll-Stmt y ∷ xs) ≡ own_step (map-Stmt Stmt ℕ statement_bulk y) + bulk xs
-bulk-first y xs = sum_cons (statement_bulk (roll-Stmt y)) (map statement_bulk xs) ∙ ap (λ n. n + bulk xs) (fold-roll-Stmt ℕ own_step y)
+bulk-first : (y : Stmt-F Stmt) (xs : List Stmt)
+    → bulk (roll-Stmt y ∷ xs) ≡ own_step (map-Stmt Stmt ℕ statement_bulk y) + bulk xs
+bulk-first y xs = sum_cons (statement_bulk (roll-Stmt y)) (map statement_bulk xs)
+    ∙ ap (λ n. n + bulk xs) (fold-roll-Stmt ℕ own_step y)
 
 -- ---- pieces
 
 fetch-few : (k r : ℕ) → bulk (fetch k r) ≤ 5
 fetch-few k r = by (nat_lt k 512)
   where
-    by : (b : Bool) → bulk (if b then roll-Stmt (Stmt-F.Load r Four 3 (pos (4 * k))) ∷ [] else roll-Stmt (Stmt-F.Lit r (4 * k)) ∷ roll-Stmt (Stmt-F.Op r Add r (operand.Name 3)) ∷ roll-Stmt (Stmt-F.Load r Four r (pos 0)) ∷ []) ≤ 5
+    by : (b : Bool) → bulk (if b then roll-Stmt (Stmt-F.Load r Four 3 (pos (4 * k))) ∷ [] else roll-Stmt (Stmt-F.Lit r
+        (4 * k)) ∷ roll-Stmt (Stmt-F.Op r Add r (operand.Name 3)) ∷ roll-Stmt (Stmt-F.Load r Four r (pos 0)) ∷ []) ≤ 5
     by true = let is = bulk-first (Stmt-F.Load r Four 3 (pos (4 * k))) [] in omega (arith, is)
     by false =
-        let one = bulk-first (Stmt-F.Lit r (4 * k)) (roll-Stmt (Stmt-F.Op r Add r (operand.Name 3)) ∷ roll-Stmt (Stmt-F.Load r Four r (pos 0)) ∷ []) in
+        let one = bulk-first (Stmt-F.Lit r (4 * k))
+        (roll-Stmt (Stmt-F.Op r Add r (operand.Name 3)) ∷ roll-Stmt (Stmt-F.Load r Four r (pos 0)) ∷ []) in
         let two = bulk-first (Stmt-F.Op r Add r (operand.Name 3)) (roll-Stmt (Stmt-F.Load r Four r (pos 0)) ∷ []) in
         let three = bulk-first (Stmt-F.Load r Four r (pos 0)) [] in
         omega (arith, one, two, three)
@@ -61,10 +69,12 @@ fetch-few k r = by (nat_lt k 512)
 put_away-few : (k r : ℕ) → bulk (put_away k r) ≤ 5
 put_away-few k r = by (nat_lt k 512)
   where
-    by : (b : Bool) → bulk (if b then roll-Stmt (Stmt-F.Store Four 3 r (pos (4 * k))) ∷ [] else roll-Stmt (Stmt-F.Lit 5 (4 * k)) ∷ roll-Stmt (Stmt-F.Op 5 Add 5 (operand.Name 3)) ∷ roll-Stmt (Stmt-F.Store Four 5 r (pos 0)) ∷ []) ≤ 5
+    by : (b : Bool) → bulk (if b then roll-Stmt (Stmt-F.Store Four 3 r (pos (4 * k))) ∷ [] else roll-Stmt (Stmt-F.Lit 5
+        (4 * k)) ∷ roll-Stmt (Stmt-F.Op 5 Add 5 (operand.Name 3)) ∷ roll-Stmt (Stmt-F.Store Four 5 r (pos 0)) ∷ []) ≤ 5
     by true = let is = bulk-first (Stmt-F.Store Four 3 r (pos (4 * k))) [] in omega (arith, is)
     by false =
-        let one = bulk-first (Stmt-F.Lit 5 (4 * k)) (roll-Stmt (Stmt-F.Op 5 Add 5 (operand.Name 3)) ∷ roll-Stmt (Stmt-F.Store Four 5 r (pos 0)) ∷ []) in
+        let one = bulk-first (Stmt-F.Lit 5 (4 * k))
+        (roll-Stmt (Stmt-F.Op 5 Add 5 (operand.Name 3)) ∷ roll-Stmt (Stmt-F.Store Four 5 r (pos 0)) ∷ []) in
         let two = bulk-first (Stmt-F.Op 5 Add 5 (operand.Name 3)) (roll-Stmt (Stmt-F.Store Four 5 r (pos 0)) ∷ []) in
         let three = bulk-first (Stmt-F.Store Four 5 r (pos 0)) [] in
         omega (arith, one, two, three)
@@ -138,26 +148,33 @@ units_of xs = sum (map (added own_units) xs)
 more : (w a b u v z : ℕ) → w ≡ a + b → a ≤ 24 * u → b ≤ 24 * v → z ≡ u + v → w ≤ 24 * z
 more w a b u v z sum one two is = omega (arith, sum, one, two, is)
 
-small-all : (l : Layout) (xs : List (Known l)) → bulk (joined (map (spilled l) (stmts l xs))) ≤ 24 * units_of (stmts l xs)
+small-all : (l : Layout) (xs : List (Known l))
+    → bulk (joined (map (spilled l) (stmts l xs))) ≤ 24 * units_of (stmts l xs)
 small-all l [] = omega arith
 small-all l (x ∷ xs) =
     let sum = bulk-append (spilled l x.0) (joined (map (spilled l) (stmts l xs))) in
     let one = x.1 in
     let rest = small-all l xs in
-    more (bulk (spilled l x.0 ++ joined (map (spilled l) (stmts l xs)))) (bulk (spilled l x.0)) (bulk (joined (map (spilled l) (stmts l xs)))) (added own_units x.0) (units_of (stmts l xs)) (units_of (stmts l (x ∷ xs))) sum one rest (sum_cons (added own_units x.0) (map (added own_units) (stmts l xs)))
+    more (bulk (spilled l x.0 ++ joined (map (spilled l) (stmts l xs)))) (bulk (spilled l x.0))
+    (bulk (joined (map (spilled l) (stmts l xs)))) (added own_units x.0) (units_of (stmts l xs))
+    (units_of (stmts l (x ∷ xs))) sum one rest (sum_cons (added own_units x.0) (map (added own_units) (stmts l xs)))
 
 abbrev LayerSmall : Layout → Stmt-F Stmt → Type 0
-LayerSmall l y = bulk (spilled_step l (map-Stmt Stmt (List Stmt) (spilled l) y)) ≤ 24 * unit_step (map-Stmt Stmt ℕ (added own_units) y)
+LayerSmall l y = bulk (spilled_step l (map-Stmt Stmt (List Stmt) (spilled l) y))
+    ≤ 24 * unit_step (map-Stmt Stmt ℕ (added own_units) y)
 
 -- a piece, one statement, and a piece
-around : (xs : List Stmt) (y : Stmt-F Stmt) (zs : List Stmt) (a b w : ℕ) → bulk xs ≤ a → own_step (map-Stmt Stmt ℕ statement_bulk y) ≡ w → bulk zs ≤ b → bulk (xs ++ roll-Stmt y ∷ zs) ≤ a + w + b
+around : (xs : List Stmt) (y : Stmt-F Stmt) (zs : List Stmt) (a b w : ℕ) → bulk xs ≤ a
+    → own_step (map-Stmt Stmt ℕ statement_bulk y) ≡ w → bulk zs ≤ b → bulk (xs ++ roll-Stmt y ∷ zs) ≤ a + w + b
 around xs y zs a b w one is two =
     let sum = bulk-append xs (roll-Stmt y ∷ zs) in
     let front = bulk-first y zs in
     omega (arith, sum, front, one, is, two)
 
 -- two pieces in front
-around-two : (xs ys : List Stmt) (y : Stmt-F Stmt) (zs : List Stmt) (a b c w : ℕ) → bulk xs ≤ a → bulk ys ≤ b → own_step (map-Stmt Stmt ℕ statement_bulk y) ≡ w → bulk zs ≤ c → bulk (xs ++ (ys ++ roll-Stmt y ∷ zs)) ≤ a + b + w + c
+around-two : (xs ys : List Stmt) (y : Stmt-F Stmt) (zs : List Stmt) (a b c w : ℕ)
+    → bulk xs ≤ a → bulk ys ≤ b → own_step (map-Stmt Stmt ℕ statement_bulk y) ≡ w → bulk zs ≤ c
+    → bulk (xs ++ (ys ++ roll-Stmt y ∷ zs)) ≤ a + b + w + c
 around-two xs ys y zs a b c w one two is three =
     let sum = bulk-append xs (ys ++ roll-Stmt y ∷ zs) in
     let rest = around ys y zs b c w two is three in
@@ -174,19 +191,23 @@ layer l (Stmt-F.Lit x n) =
 layer l (Stmt-F.Copy x y) = let is = copy-few (l.place x) (l.place y) in omega (arith, is)
 layer l (Stmt-F.Op x o y z) =
     let last : Stmt-F Stmt = Stmt-F.Op (at (l.place x) 4) o (at (l.place y) 4) (operand_at l z) in
-    let is = around-two (bring (l.place y) 4) (bring_operand l z) last (keep (l.place x)) 5 5 5 2 (bring-few (l.place y) 4) (operand-few l z) refl (keep-few (l.place x)) in
+    let is = around-two (bring (l.place y) 4) (bring_operand l z) last (keep (l.place x)) 5 5 5 2
+    (bring-few (l.place y) 4) (operand-few l z) refl (keep-few (l.place x)) in
     omega (arith, is)
 layer l (Stmt-F.Load x size y offset) =
     let last : Stmt-F Stmt = Stmt-F.Load (at (l.place x) 4) size (at (l.place y) 4) offset in
-    let is = around (bring (l.place y) 4) last (keep (l.place x)) 5 5 1 (bring-few (l.place y) 4) refl (keep-few (l.place x)) in
+    let is = around (bring (l.place y) 4) last (keep (l.place x)) 5 5 1 (bring-few (l.place y) 4) refl
+    (keep-few (l.place x)) in
     omega (arith, is)
 layer l (Stmt-F.Store size y z offset) =
     let last : Stmt-F Stmt = Stmt-F.Store size (at (l.place y) 4) (at (l.place z) 5) offset in
-    let is = around-two (bring (l.place y) 4) (bring (l.place z) 5) last [] 5 5 0 1 (bring-few (l.place y) 4) (bring-few (l.place z) 5) refl (omega arith) in
+    let is = around-two (bring (l.place y) 4) (bring (l.place z) 5) last [] 5 5 0 1 (bring-few (l.place y) 4)
+    (bring-few (l.place z) 5) refl (omega arith) in
     omega (arith, is)
 layer l (Stmt-F.Table x size bytes y) =
     let last : Stmt-F Stmt = Stmt-F.Table (at (l.place x) 4) size bytes (at (l.place y) 4) in
-    let is = around (bring (l.place y) 4) last (keep (l.place x)) 5 5 (4 + words_for (length bytes) + 0) (bring-few (l.place y) 4) refl (keep-few (l.place x)) in
+    let is = around (bring (l.place y) 4) last (keep (l.place x)) 5 5 (4 + words_for (length bytes) + 0)
+    (bring-few (l.place y) 4) refl (keep-few (l.place x)) in
     table (bulk (bring (l.place y) 4 ++ roll-Stmt last ∷ keep (l.place x))) (words_for (length bytes)) is
   where
     table : (a w : ℕ) → a ≤ 5 + (4 + w + 0) + 5 → a ≤ 24 * (1 + w + 0)
@@ -197,7 +218,8 @@ layer l (Stmt-F.Stackalloc x n body) =
     let sum = bulk-append (keep (l.place x)) flat in
     let two = keep-few (l.place x) in
     let rest = small-all l body in
-    buffer (bulk (roll-Stmt (Stmt-F.Stackalloc (at (l.place x) 4) n (keep (l.place x) ++ flat)) ∷ [])) (bulk (keep (l.place x) ++ flat)) (bulk (keep (l.place x))) (bulk flat) (units_of (stmts l body)) is sum two rest
+    buffer (bulk (roll-Stmt (Stmt-F.Stackalloc (at (l.place x) 4) n (keep (l.place x) ++ flat)) ∷ [])) (bulk
+    (keep (l.place x) ++ flat)) (bulk (keep (l.place x))) (bulk flat) (units_of (stmts l body)) is sum two rest
   where
     buffer : (w a b c u : ℕ) → w ≡ 3 + (0 + a) + 0 → a ≡ b + c → b ≤ 5 → c ≤ 24 * u → w ≤ 24 * (1 + (0 + u))
     buffer w a b c u is sum two rest = omega (arith, is, sum, two, rest)
@@ -205,8 +227,10 @@ layer l (Stmt-F.If test first second) =
     let one = joined (map (spilled l) (stmts l first)) in
     let two = joined (map (spilled l) (stmts l second)) in
     let last : Stmt-F Stmt = Stmt-F.If (test_at l test) one two in
-    let is = around (bring_test l test) last [] 10 0 (5 + (0 + bulk one + bulk two)) (test-few l test) refl (omega arith) in
-    both (bulk (bring_test l test ++ roll-Stmt last ∷ [])) (bulk one) (bulk two) (units_of (stmts l first)) (units_of (stmts l second)) is (small-all l first) (small-all l second)
+    let is = around (bring_test l test) last [] 10 0 (5 + (0 + bulk one + bulk two)) (test-few l test) refl
+    (omega arith) in
+    both (bulk (bring_test l test ++ roll-Stmt last ∷ [])) (bulk one) (bulk two) (units_of (stmts l first))
+    (units_of (stmts l second)) is (small-all l first) (small-all l second)
   where
     both : (w a b u v : ℕ) → w ≤ 10 + (5 + (0 + a + b)) + 0 → a ≤ 24 * u → b ≤ 24 * v → w ≤ 24 * (1 + (0 + u + v))
     both w a b u v is one two = omega (arith, is, one, two)
@@ -215,37 +239,46 @@ layer l (Stmt-F.Loop first test last) =
     let two = joined (map (spilled l) (stmts l last)) in
     let y : Stmt-F Stmt = Stmt-F.Loop (one ++ bring_test l test) (test_at l test) two in
     let is = bulk-first y [] in
-    both (bulk (roll-Stmt y ∷ [])) (bulk (one ++ bring_test l test)) (bulk one) (bulk (bring_test l test)) (bulk two) (units_of (stmts l first)) (units_of (stmts l last)) is (bulk-append one (bring_test l test)) (test-few l test) (small-all l first) (small-all l last)
+    both (bulk (roll-Stmt y ∷ [])) (bulk (one ++ bring_test l test)) (bulk one) (bulk (bring_test l test)) (bulk two)
+    (units_of (stmts l first)) (units_of (stmts l last)) is (bulk-append one (bring_test l test)) (test-few l test)
+    (small-all l first) (small-all l last)
   where
-    both : (w c a t b u v : ℕ) → w ≡ 5 + (0 + c + b) + 0 → c ≡ a + t → t ≤ 10 → a ≤ 24 * u → b ≤ 24 * v → w ≤ 24 * (1 + (0 + u + v))
+    both : (w c a t b u v : ℕ) → w ≡ 5 + (0 + c + b) + 0 → c ≡ a + t → t ≤ 10 → a ≤ 24 * u → b ≤ 24 * v
+        → w ≤ 24 * (1 + (0 + u + v))
     both w c a t b u v is sum ten one two = omega (arith, is, sum, ten, one, two)
 layer l (Stmt-F.Call xs g ys) =
     let y : Stmt-F Stmt = Stmt-F.Call (in_order 10 (length xs)) g (in_order 10 (length ys)) in
-    let is = around (passes (map l.place ys) 10) y (takes (map l.place xs) 10) (5 * length ys) (5 * length xs) 2 (passes-few l ys 10) refl (takes-few l xs 10) in
+    let is = around (passes (map l.place ys) 10) y (takes (map l.place xs) 10) (5 * length ys) (5 * length xs) 2
+    (passes-few l ys 10) refl (takes-few l xs 10) in
     passed (bulk (passes (map l.place ys) 10 ++ roll-Stmt y ∷ takes (map l.place xs) 10)) (length xs) (length ys) is
   where
     passed : (w a b : ℕ) → w ≤ 5 * b + 2 + 5 * a → w ≤ 24 * (1 + a + b + 0)
     passed w a b is = omega (arith, is)
 layer l (Stmt-F.Read x y) =
     let last : Stmt-F Stmt = Stmt-F.Read (at (l.place x) 4) (at (l.place y) 4) in
-    let is = around (bring (l.place y) 4) last (keep (l.place x)) 5 5 1 (bring-few (l.place y) 4) refl (keep-few (l.place x)) in
+    let is = around (bring (l.place y) 4) last (keep (l.place x)) 5 5 1 (bring-few (l.place y) 4) refl
+    (keep-few (l.place x)) in
     omega (arith, is)
 layer l (Stmt-F.Write y z) =
     let last : Stmt-F Stmt = Stmt-F.Write (at (l.place y) 4) (at (l.place z) 5) in
-    let is = around-two (bring (l.place y) 4) (bring (l.place z) 5) last [] 5 5 0 1 (bring-few (l.place y) 4) (bring-few (l.place z) 5) refl (omega arith) in
+    let is = around-two (bring (l.place y) 4) (bring (l.place z) 5) last [] 5 5 0 1 (bring-few (l.place y) 4)
+    (bring-few (l.place z) 5) refl (omega arith) in
     omega (arith, is)
 
 small-statement : (l : Layout) (s : Stmt) → Small l s
 small-statement l = ind-Stmt (Small l) (λ x y is.
     let step = subst (LayerSmall l) is (layer l y) in
-    let one = subst (λ b. bulk b ≤ 24 * unit_step (map-Stmt Stmt ℕ (added own_units) x)) (sym (fold-roll-Stmt (List Stmt) (spilled_step l) x)) step in
+    let one = subst (λ b. bulk b ≤ 24 * unit_step (map-Stmt Stmt ℕ (added own_units) x))
+    (sym (fold-roll-Stmt (List Stmt) (spilled_step l) x)) step in
     subst (λ n. bulk (spilled l (roll-Stmt x)) ≤ 24 * n) (sym (fold-roll-Stmt ℕ unit_step x)) one)
 
 small-statements : (l : Layout) (xs : List Stmt) → bulk (joined (map (spilled l) xs)) ≤ 24 * units_of xs
 small-statements l [] = omega arith
 small-statements l (x ∷ xs) =
-    more (bulk (spilled l x ++ joined (map (spilled l) xs))) (bulk (spilled l x)) (bulk (joined (map (spilled l) xs))) (added own_units x) (units_of xs) (units_of (x ∷ xs))
-    (bulk-append (spilled l x) (joined (map (spilled l) xs))) (small-statement l x) (small-statements l xs) (sum_cons (added own_units x) (map (added own_units) xs))
+    more (bulk (spilled l x ++ joined (map (spilled l) xs))) (bulk (spilled l x)) (bulk (joined (map (spilled l) xs)))
+    (added own_units x) (units_of xs) (units_of (x ∷ xs))
+    (bulk-append (spilled l x) (joined (map (spilled l) xs))) (small-statement l x) (small-statements l xs)
+    (sum_cons (added own_units x) (map (added own_units) xs))
 
 pub function-small : (l : Layout) (f : FlatFunc) → function_bulk (spilled_function l f) ≤ 24 * units f
 function-small l f = by l.slots
@@ -255,7 +288,8 @@ function-small l f = by l.slots
 
     within : bulk body ≤ 5 * length f.args + 24 * units_of f.body + 5 * length f.results
     within =
-        let one = bulk-append (takes (map l.place f.args) 10) (joined (map (spilled l) f.body) ++ passes (map l.place f.results) 10) in
+        let one = bulk-append (takes (map l.place f.args) 10)
+        (joined (map (spilled l) f.body) ++ passes (map l.place f.results) 10) in
         let two = bulk-append (joined (map (spilled l) f.body)) (passes (map l.place f.results) 10) in
         let a = takes-few l f.args 10 in
         let b = small-statements l f.body in
@@ -266,10 +300,13 @@ function-small l f = by l.slots
     room w a u r h = omega (arith, h)
 
     by : (n : ℕ) → 96 + bulk (in_buffer n body) ≤ 24 * units f
-    by zero = le-then (96 + bulk body) (96 + (3 + bulk body)) (24 * units f) (omega arith) (room (bulk body) (length f.args) (units_of f.body) (length f.results) within)
+    by zero = le-then (96 + bulk body) (96 + (3 + bulk body)) (24 * units f) (omega arith)
+        (room (bulk body) (length f.args) (units_of f.body) (length f.results) within)
     by (suc n) =
         let is = bulk-first (Stmt-F.Stackalloc 3 (4 * suc n) body) [] in
-        le-then (96 + bulk (roll-Stmt (Stmt-F.Stackalloc 3 (4 * suc n) body) ∷ [])) (96 + (3 + bulk body)) (24 * units f) (omega (arith, is)) (room (bulk body) (length f.args) (units_of f.body) (length f.results) within)
+        le-then (96 + bulk (roll-Stmt (Stmt-F.Stackalloc 3 (4 * suc n) body) ∷ []))
+        (96 + (3 + bulk body)) (24 * units f) (omega (arith, is))
+        (room (bulk body) (length f.args) (units_of f.body) (length f.results) within)
 
 -- the flat bulk of a program
 pub program-small : (qs ps : List FlatFunc) → SpilledFunctions qs ps → flat_bulk qs ≤ 24 * sum (map units ps)
@@ -281,7 +318,8 @@ program-small (q ∷ qs) (p ∷ ps) h =
     let rest = program-small qs ps h.1 in
     let whole = sum_cons (function_bulk q) (map function_bulk qs) in
     let others = sum_cons (units p) (map units ps) in
-    together (flat_bulk (q ∷ qs)) (function_bulk q) (flat_bulk qs) (sum (map units (p ∷ ps))) (units p) (sum (map units ps)) whole others one rest
+    together (flat_bulk (q ∷ qs)) (function_bulk q) (flat_bulk qs) (sum (map units (p ∷ ps))) (units p)
+    (sum (map units ps)) whole others one rest
   where
     together : (w a b z u v : ℕ) → w ≡ a + b → z ≡ u + v → a ≤ 24 * u → b ≤ 24 * v → w ≤ 24 * z
     together w a b z u v e f one two = omega (arith, e, f, one, two)

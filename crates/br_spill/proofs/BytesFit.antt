@@ -5,7 +5,8 @@ use Rattle.std.proofs.lemmas.Bool.Decides.{nat_tests}
 
 pub bytes-fit : (bs : List ℕ) → ((i : ℕ) → get_or bs i 0 < 2 ^ 8) → list_all (λ b. nat_lt b 256) bs ≡ true
 bytes-fit [] h = refl
-bytes-fit (b ∷ bs) h = both (nat_lt b 256) (list_all (λ b. nat_lt b 256) bs) (small b (h 0)) (bytes-fit bs (λ i. h (suc i)))
+bytes-fit (b ∷ bs) h =
+    both (nat_lt b 256) (list_all (λ b. nat_lt b 256) bs) (small b (h 0)) (bytes-fit bs (λ i. h (suc i)))
   where
     small : (b : ℕ) → b < 2 ^ 8 → nat_lt b 256 ≡ true
     small b l = grind (arith, nat_tests)

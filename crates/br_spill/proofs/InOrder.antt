@@ -8,7 +8,10 @@ next i count less =
     let after : suc (10 + i) ≡ 10 + (i + 1) = omega arith in
     ap (in_order (10 + i)) size ∙ ap (λ a. (10 + i) ∷ in_order a (count - (i + 1))) after
 
-pub one-more : (xs ys : List ℕ) (i count : ℕ) → i < count → ys ≡ xs ++ (10 + i) ∷ [] → xs ++ in_order (10 + i) (count - i) ≡ in_order 10 count → ys ++ in_order (10 + (i + 1)) (count - (i + 1)) ≡ in_order 10 count
+pub one-more : (xs ys : List ℕ) (i count : ℕ)
+    → i < count → ys ≡ xs ++ (10 + i) ∷ [] → xs ++ in_order (10 + i) (count - i) ≡ in_order 10 count
+    → ys ++ in_order (10 + (i + 1)) (count - (i + 1)) ≡ in_order 10 count
 one-more xs ys i count less is h =
-    ap (λ zs. zs ++ in_order (10 + (i + 1)) (count - (i + 1))) is ∙ append_assoc xs ((10 + i) ∷ []) (in_order (10 + (i + 1)) (count - (i + 1)))
+    ap (λ zs. zs ++ in_order (10 + (i + 1)) (count - (i + 1))) is
+    ∙ append_assoc xs ((10 + i) ∷ []) (in_order (10 + (i + 1)) (count - (i + 1)))
     ∙ ap (λ zs. xs ++ zs) (sym (next i count less)) ∙ h

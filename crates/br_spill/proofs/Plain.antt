@@ -1,6 +1,7 @@
 -- Functions whose names all have registers: each of their statements but a call is one statement with registers
 -- for names.
-use Rattle.std.proofs.Common.{◌≡◌, ℕ, ◌<◌, ◌≤◌, ◌==◌, ◌||◌, nat_lt, Bool, true, false, suc, List, [], ◌∷◌, ◌++◌, append-nil, map, refl, sym, ap, subst, ◌∙◌, arith}
+use Rattle.std.proofs.Common.{◌≡◌, ℕ, ◌<◌, ◌≤◌, ◌==◌, ◌||◌, nat_lt, Bool, true, false, suc, List}
+use Rattle.std.proofs.Common.{[], ◌∷◌, ◌++◌, append-nil, map, refl, sym, ap, subst, ◌∙◌, arith}
 use Rattle.std.proofs.lemmas.Bool.Decides.{nat_tests}
 use Rattle.br_flatimp.specs.declared.program.Operand.TheVariants as operand
 use Rattle.br_flatimp.specs.declared.program.Cond.TheVariants.{NonZero, Compare}
@@ -30,13 +31,16 @@ pub plain : (names : ℕ) (l : Layout) → Fits names l → l.slots ≡ 0 → Pl
 plain names l fits none = record {
   to = λ x. at (l.place x) 4;
   place = in_register;
-  apart = λ x y less under same. fits.apart x y less under (in_register x less ∙ ap Register same ∙ sym (in_register y under));
+  apart = λ x y less under same.
+      fits.apart x y less under (in_register x less ∙ ap Register same ∙ sym (in_register y under));
   free = λ x r less low high is.
-      not_passing l.registers l.slots r (subst (λ p. is_inside l.registers l.slots p ≡ true) (in_register x less ∙ ap Register is) (fits.inside x less)) low high;
+      not_passing l.registers l.slots r (subst (λ p. is_inside l.registers l.slots p ≡ true)
+      (in_register x less ∙ ap Register is) (fits.inside x less)) low high;
 }
   where
     in_register : (x : ℕ) → x < names → l.place x ≡ Register (at (l.place x) 4)
-    in_register x less = by (l.place x) (subst (λ n. is_inside l.registers n (l.place x) ≡ true) none (fits.inside x less))
+    in_register x less =
+        by (l.place x) (subst (λ n. is_inside l.registers n (l.place x) ≡ true) none (fits.inside x less))
       where
         by : (p : Place) → is_inside l.registers 0 p ≡ true → p ≡ Register (at p 4)
         by (Register r) h = refl
@@ -72,7 +76,8 @@ same-test a b c d there back = by (a == b) (c == d) refl refl
     by false true e f = sym e ∙ test a b (back (equal c d f))
 
 -- a register is among those of names where its name is among them
-pub is_in-registers : (l : Layout) (names : ℕ) (g : Plain l names) (xs : List ℕ) (x : ℕ) → are_below names xs ≡ true → x < names
+pub is_in-registers : (l : Layout) (names : ℕ) (g : Plain l names) (xs : List ℕ) (x : ℕ)
+    → are_below names xs ≡ true → x < names
     → is_in (map g.to xs) (g.to x) ≡ is_in xs x
 is_in-registers l names g [] x h less = refl
 is_in-registers l names g (y ∷ ys) x h less =
@@ -119,18 +124,21 @@ module _ (l : Layout) (names : ℕ) (g : Plain l names)
     second-place : (x y : ℕ) (ys : List ℕ) → are_below names (x ∷ y ∷ ys) ≡ true → l.place y ≡ Register (g.to y)
     second-place x y ys h = first-place y ys (rest-below names x (y ∷ ys) h)
 
-    pub one-statement : (y : Stmt-F (List Stmt)) → is_call y ≡ false → are_below names (written y) ≡ true → are_below names (read y) ≡ true
+    pub one-statement : (y : Stmt-F (List Stmt)) → is_call y ≡ false → are_below names (written y) ≡ true
+        → are_below names (read y) ≡ true
         → spilled_step l y ≡ roll-Stmt (renamed_step g.to (with_joined y)) ∷ []
     one-statement (Stmt-F.Lit x n) c h k = rw (first-place x [] h) refl
     one-statement (Stmt-F.Copy x y) c h k = rw (first-place x [] h, first-place y [] k) refl
-    one-statement (Stmt-F.Op x op y (operand.Name z)) c h k = rw (first-place x [] h, first-place y (z ∷ []) k, second-place y z [] k) refl
+    one-statement (Stmt-F.Op x op y (operand.Name z)) c h k =
+        rw (first-place x [] h, first-place y (z ∷ []) k, second-place y z [] k) refl
     one-statement (Stmt-F.Op x op y (operand.Const n)) c h k = rw (first-place x [] h, first-place y [] k) refl
     one-statement (Stmt-F.Load x size y offset) c h k = rw (first-place x [] h, first-place y [] k) refl
     one-statement (Stmt-F.Store size y z offset) c h k = rw (first-place y (z ∷ []) k, second-place y z [] k) refl
     one-statement (Stmt-F.Table x size bytes y) c h k = rw (first-place x [] h, first-place y [] k) refl
     one-statement (Stmt-F.Stackalloc x n body) c h k = rw (first-place x [] h) refl
     one-statement (Stmt-F.If (NonZero y) first second) c h k = rw (first-place y [] k) refl
-    one-statement (Stmt-F.If (Compare rel y z) first second) c h k = rw (first-place y (z ∷ []) k, second-place y z [] k) refl
+    one-statement (Stmt-F.If (Compare rel y z) first second) c h k =
+        rw (first-place y (z ∷ []) k, second-place y z [] k) refl
     one-statement (Stmt-F.Loop first (NonZero y) last) c h k = rw (first-place y [] k, append-nil (joined first)) refl
     one-statement (Stmt-F.Loop first (Compare rel y z) last) c h k =
         rw (first-place y (z ∷ []) k, second-place y z [] k, append-nil (joined first)) refl
@@ -154,11 +162,13 @@ pub takes-copies : (l : Layout) (names : ℕ) (g : Plain l names) (xs : List ℕ
 takes-copies l names g [] from h = refl
 takes-copies l names g (x ∷ xs) from h =
     ap (λ p. put p from ++ takes (map l.place xs) (suc from)) (g.place x (first-below names x xs h))
-    ∙ ap (λ rest. roll-Stmt (Stmt-F.Copy (g.to x) from) ∷ rest) (takes-copies l names g xs (suc from) (rest-below names x xs h))
+    ∙ ap (λ rest. roll-Stmt (Stmt-F.Copy (g.to x) from) ∷ rest)
+    (takes-copies l names g xs (suc from) (rest-below names x xs h))
 
 pub passes-copies : (l : Layout) (names : ℕ) (g : Plain l names) (ys : List ℕ) (reg : ℕ) → are_below names ys ≡ true
     → passes (map l.place ys) reg ≡ passed g.to ys reg
 passes-copies l names g [] reg h = refl
 passes-copies l names g (y ∷ ys) reg h =
     ap (λ p. pass p reg ++ passes (map l.place ys) (suc reg)) (g.place y (first-below names y ys h))
-    ∙ ap (λ rest. roll-Stmt (Stmt-F.Copy reg (g.to y)) ∷ rest) (passes-copies l names g ys (suc reg) (rest-below names y ys h))
+    ∙ ap (λ rest. roll-Stmt (Stmt-F.Copy reg (g.to y)) ∷ rest)
+    (passes-copies l names g ys (suc reg) (rest-below names y ys h))

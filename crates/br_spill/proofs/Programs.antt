@@ -1,5 +1,6 @@
 -- Programs in register form refine those that they come from.
-use Rattle.std.proofs.Common.{◌≡◌, ◌≢◌, ℕ, zero, suc, ◌<◌, ◌≤◌, ◌&&◌, nat_le, Bool, true, false, List, [], ◌∷◌, ◌++◌, map, length, Option, Some, None, inl, inr, refl, sym, ap, subst, ◌∙◌, arith, slice_get}
+use Rattle.std.proofs.Common.{◌≡◌, ◌≢◌, ℕ, zero, suc, ◌<◌, ◌≤◌, ◌&&◌, nat_le, Bool, true, false, List, [], ◌∷◌, ◌++◌}
+use Rattle.std.proofs.Common.{map, length, Option, Some, None, inl, inr, refl, sym, ap, subst, ◌∙◌, arith, slice_get}
 use Rattle.std.specs.Prelude.{IfSome}
 use Rattle.std.specs.List.{list_all}
 use Rattle.std.specs.Option.{option_map}
@@ -13,10 +14,12 @@ use Rattle.br_bytes.specs.Memory.{Memory}
 use Rattle.br_bytes.specs.Buffers.{AreWords, AreChoices}
 use Rattle.br_bytes.specs.Runs.{Waiting, OutOfFuel, Undefined, NoChoice, Returns, Stops, seen}
 use Rattle.br_flatimp.specs.declared.program.FlatFunc.{FlatFunc}
-use Rattle.br_flatimp.specs.WellFormed.{are_below, all_differ, is_list_of_names, is_well_formed_statement, is_well_formed_head, is_well_formed_function, names_differ, IsWellFormed}
+use Rattle.br_flatimp.specs.WellFormed.{are_below, all_differ, is_list_of_names, is_well_formed_statement}
+use Rattle.br_flatimp.specs.WellFormed.{is_well_formed_head, is_well_formed_function, names_differ, IsWellFormed}
 use Rattle.br_flatimp.specs.Refines.{Signature, IsInData, Shows, Refines, signature, meaning}
 use Rattle.br_flatimp.specs.Runs.{State, Returned, Callee, forgets_none, enter, function_of, begin}
-use Rattle.br_spill.specs.Spill.{Layout, Fits, in_order, spilled_function, SpilledFunctions, function_words_fit, HasWords}
+use Rattle.br_spill.specs.Spill.{Layout, Fits, in_order, spilled_function}
+use Rattle.br_spill.specs.Spill.{SpilledFunctions, function_words_fit, HasWords}
 use Rattle.br_spill.proofs.Follows.{given, CallChoosing, CallFollows, choices-append}
 use Rattle.br_spill.proofs.Extra.{Extra, Extends}
 use Rattle.br_spill.proofs.Scene.{Outside, outside-shown}
@@ -36,9 +39,11 @@ three false b c h = absurd (cc h)
 at-most : (a b : ℕ) → nat_le a b ≡ true → a ≤ b
 at-most a b e = grind (arith, nat_tests)
 
-sound : (fs : List FlatFunc) (f : FlatFunc) → is_well_formed_function fs f ≡ true → function_words_fit f ≡ true → Sound fs f
+sound : (fs : List FlatFunc) (f : FlatFunc) → is_well_formed_function fs f ≡ true
+    → function_words_fit f ≡ true → Sound fs f
 sound fs f formed words =
-    let head = three (nat_le f.names 1048576) (is_list_of_names f.names f.args) (is_list_of_names f.names f.results) (and-first (is_well_formed_head f) (list_all (is_well_formed_statement fs f.names) f.body) formed) in
+    let head = three (nat_le f.names 1048576) (is_list_of_names f.names f.args) (is_list_of_names f.names f.results)
+    (and-first (is_well_formed_head f) (list_all (is_well_formed_statement fs f.names) f.body) formed) in
     let args = three (nat_le (length f.args) 8) (are_below f.names f.args) (all_differ f.args) head.1 in
     let results = three (nat_le (length f.results) 8) (are_below f.names f.results) (all_differ f.results) head.2 in
     record {
@@ -51,9 +56,11 @@ sound fs f formed words =
     }
 
 -- a test that holds of all holds at each place
-all-at : (test : FlatFunc → Bool) (fs : List FlatFunc) → list_all test fs ≡ true → (n : ℕ) (f : FlatFunc) → slice_get fs n ≡ Some f → test f ≡ true
+all-at : (test : FlatFunc → Bool) (fs : List FlatFunc) → list_all test fs ≡ true → (n : ℕ) (f : FlatFunc)
+    → slice_get fs n ≡ Some f → test f ≡ true
 all-at test [] h n f e = absurd (cc e)
-all-at test (g ∷ gs) h zero f e = let same : g ≡ f = cc e in subst (λ g. test g ≡ true) same (and-first (test g) (list_all test gs) h)
+all-at test (g ∷ gs) h zero f e = let same : g ≡ f = cc e in
+    subst (λ g. test g ≡ true) same (and-first (test g) (list_all test gs) h)
 all-at test (g ∷ gs) h (suc n) f e = all-at test gs (and-second (test g) (list_all test gs) h) n f e
 
 -- the function of the same number in register form
@@ -62,7 +69,8 @@ record Spilled (qs : List FlatFunc) (n : ℕ) (f : FlatFunc) : Type 0 where
   fits : Fits f.names layout
   there : slice_get qs n ≡ Some (spilled_function layout f)
 
-spilled-at : (qs ps : List FlatFunc) → SpilledFunctions qs ps → (n : ℕ) (f : FlatFunc) → slice_get ps n ≡ Some f → Spilled qs n f
+spilled-at : (qs ps : List FlatFunc) → SpilledFunctions qs ps → (n : ℕ) (f : FlatFunc) → slice_get ps n ≡ Some f
+    → Spilled qs n f
 spilled-at [] [] h n f e = absurd (cc e)
 spilled-at [] (p ∷ ps) h n f e = absurd h
 spilled-at (q ∷ qs) [] h n f e = absurd h
@@ -75,21 +83,32 @@ spilled-at (q ∷ qs) (p ∷ ps) h (suc n) f e =
 
 -- ---- calls at each depth
 
-few : (fs : List FlatFunc) → list_all (is_well_formed_function fs) fs ≡ true → HasWords fs → (n : ℕ) (f : FlatFunc) → slice_get fs n ≡ Some f → (length f.args ≤ 8) × (length f.results ≤ 8)
+few : (fs : List FlatFunc) → list_all (is_well_formed_function fs) fs ≡ true → HasWords fs → (n : ℕ) (f : FlatFunc)
+    → slice_get fs n ≡ Some f → (length f.args ≤ 8) × (length f.results ≤ 8)
 few fs formed words n f there =
-    let s = sound fs f (all-at (is_well_formed_function fs) fs formed n f there) (all-at function_words_fit fs words n f there) in
+    let s = sound fs f (all-at (is_well_formed_function fs) fs formed n f there)
+    (all-at function_words_fit fs words n f there) in
     (s.few_args, s.few_results)
 
-enter-follows : MakesWords → (qs ps : List FlatFunc) → list_all (is_well_formed_function ps) ps ≡ true → HasWords ps → SpilledFunctions qs ps → (q p : Callee) → CalleesFollow ps q p
-    → (n : ℕ) (f : FlatFunc) → slice_get ps n ≡ Some f → (vs : List ℕ) → length vs ≡ length f.args → AreWords vs → (e : Extra) (s t : State) → Outside e s t → ((x : ℕ) → x < stack_base → e x ≡ None)
-    → CallFollows (ReturnsIn e f) (enter forgets_none q (slice_get qs n) vs s) (λ ds. enter forgets_none p (slice_get ps n) vs (given t ds))
+enter-follows : MakesWords → (qs ps : List FlatFunc) → list_all (is_well_formed_function ps) ps ≡ true → HasWords ps
+    → SpilledFunctions qs ps → (q p : Callee) → CalleesFollow ps q p
+    → (n : ℕ) (f : FlatFunc) → slice_get ps n ≡ Some f → (vs : List ℕ) → length vs ≡ length f.args → AreWords vs
+    → (e : Extra) (s t : State) → Outside e s t → ((x : ℕ) → x < stack_base → e x ≡ None)
+    → CallFollows (ReturnsIn e f) (enter forgets_none q (slice_get qs n) vs s)
+    (λ ds. enter forgets_none p (slice_get ps n) vs (given t ds))
 enter-follows makes qs ps formed words spilled q p callees n f there vs size are_words e s t h over =
     let other = spilled-at qs ps spilled n f there in
-    let whole = function-follows makes ps other.layout f other.fits q p callees (sound ps f (all-at (is_well_formed_function ps) ps formed n f there) (all-at function_words_fit ps words n f there)) vs size are_words e s t h over in
-    subst (λ o. CallFollows (ReturnsIn e f) (enter forgets_none q o vs s) (λ ds. enter forgets_none p (slice_get ps n) vs (given t ds))) (sym other.there)
-    (subst (λ o. CallFollows (ReturnsIn e f) (enter forgets_none q (Some (spilled_function other.layout f)) vs s) (λ ds. enter forgets_none p o vs (given t ds))) (sym there) whole)
+    let whole = function-follows makes ps other.layout f other.fits q p callees (sound ps
+    f (all-at (is_well_formed_function ps) ps formed n f there) (all-at function_words_fit ps words n f there)) vs
+    size are_words e s t h over in
+    subst (λ o. CallFollows (ReturnsIn e f) (enter forgets_none q o vs s)
+    (λ ds. enter forgets_none p (slice_get ps n) vs (given t ds))) (sym other.there)
+    (subst (λ o. CallFollows (ReturnsIn e f) (enter forgets_none q (Some (spilled_function other.layout f)) vs s)
+    (λ ds. enter forgets_none p o vs (given t ds))) (sym there) whole)
 
-callees-follow : MakesWords → (qs ps : List FlatFunc) → list_all (is_well_formed_function ps) ps ≡ true → HasWords ps → SpilledFunctions qs ps → (depth : ℕ) → CalleesFollow ps (function_of forgets_none qs depth) (function_of forgets_none ps depth)
+callees-follow : MakesWords → (qs ps : List FlatFunc)
+    → list_all (is_well_formed_function ps) ps ≡ true → HasWords ps → SpilledFunctions qs ps → (depth : ℕ)
+    → CalleesFollow ps (function_of forgets_none qs depth) (function_of forgets_none ps depth)
 callees-follow makes qs ps formed words spilled zero = record {
   few = λ n f there. few ps formed words n f there;
   follows = λ n f there vs size are_words e s t h over. inr (record {
@@ -103,7 +122,8 @@ callees-follow makes qs ps formed words spilled zero = record {
 callees-follow makes qs ps formed words spilled (suc depth) = record {
   few = λ n f there. few ps formed words n f there;
   follows = λ n f there vs size are_words e s t h over.
-      enter-follows makes qs ps formed words spilled (function_of forgets_none qs depth) (function_of forgets_none ps depth) (callees-follow makes qs ps formed words spilled depth) n f there vs size are_words e s t h over;
+      enter-follows makes qs ps formed words spilled (function_of forgets_none qs depth) (function_of forgets_none ps
+      depth) (callees-follow makes qs ps formed words spilled depth) n f there vs size are_words e s t h over;
 }
 
 -- ---- what calls show
@@ -114,7 +134,8 @@ record Answers (q : Returned) (p : CallChoosing) : Type 0 where
   good : AreChoices choices
   shows : Shows (seen q) (seen (p choices))
 
-answers : (e : Extra) (f : FlatFunc) (q : Returned) (p : CallChoosing) → ((x : ℕ) → x < stack_base → e x ≡ None) → CallFollows (ReturnsIn e f) q p → (seen q).outcome ≢ outcome.NoChoice → Answers q p
+answers : (e : Extra) (f : FlatFunc) (q : Returned) (p : CallChoosing) → ((x : ℕ) → x < stack_base → e x ≡ None)
+    → CallFollows (ReturnsIn e f) q p → (seen q).outcome ≢ outcome.NoChoice → Answers q p
 answers e f q p over (inl u) has = record {
   choices = u.used ++ [];
   good = choices-append u.used [] u.good tt;
@@ -125,7 +146,8 @@ answers e f (Returns vs s) p over (inr k) has =
     record {
       choices = k.used ++ [];
       good = choices-append k.used [] k.good tt;
-      shows = subst (λ r. Shows (seen (Returns vs s)) (seen r)) (sym (k.runs [])) (inr (refl, shown.trace, shown.bytes));
+      shows =
+          subst (λ r. Shows (seen (Returns vs s)) (seen r)) (sym (k.runs [])) (inr (refl, shown.trace, shown.bytes));
     }
 answers e f (Stops NoChoice s) p over (inr k) has = absurd (has refl)
 answers e f (Stops Undefined s) p over (inr k) has = absurd k
@@ -134,14 +156,16 @@ answers e f (Stops (Waiting a) s) p over (inr k) has =
     record {
       choices = k.used ++ [];
       good = choices-append k.used [] k.good tt;
-      shows = subst (λ r. Shows (seen (Stops (Waiting a) s)) (seen r)) (sym (k.runs [])) (inr (refl, shown.trace, shown.bytes));
+      shows = subst (λ r. Shows (seen (Stops (Waiting a) s)) (seen r)) (sym (k.runs []))
+          (inr (refl, shown.trace, shown.bytes));
     }
 answers e f (Stops OutOfFuel s) p over (inr k) has =
     let shown = k.shown [] in
     record {
       choices = k.used ++ [];
       good = choices-append k.used [] k.good tt;
-      shows = subst (λ r. Shows (seen (Stops OutOfFuel s)) (seen r)) (sym (k.runs [])) (inr (refl, shown.trace, shown.bytes));
+      shows = subst (λ r. Shows (seen (Stops OutOfFuel s)) (seen r)) (sym (k.runs []))
+          (inr (refl, shown.trace, shown.bytes));
     }
 
 -- ---- programs
@@ -152,7 +176,8 @@ length-in_order (suc n) a = ap suc (length-in_order n (suc a))
 
 same-signature : (l : Layout) (f : FlatFunc) → signature (spilled_function l f) ≡ signature f
 same-signature l f =
-    ap (λ n. record { name = f.name; args = n; results = length (in_order 10 (length f.results)) }) (length-in_order (length f.args) 10)
+    ap (λ n. record { name = f.name; args = n; results = length (in_order 10 (length f.results)) })
+    (length-in_order (length f.args) 10)
     ∙ ap (λ n. record { name = f.name; args = length f.args; results = n }) (length-in_order (length f.results) 10)
 
 same-signatures : (qs ps : List FlatFunc) → SpilledFunctions qs ps → map signature qs ≡ map signature ps
@@ -160,7 +185,8 @@ same-signatures [] [] h = refl
 same-signatures [] (p ∷ ps) h = absurd h
 same-signatures (q ∷ qs) [] h = absurd h
 same-signatures (q ∷ qs) (p ∷ ps) h =
-    ap (λ g. g ∷ map signature qs) (ap signature h.0.2 ∙ same-signature h.0.0 p) ∙ ap (λ gs. signature p ∷ gs) (same-signatures qs ps h.1)
+    ap (λ g. g ∷ map signature qs) (ap signature h.0.2 ∙ same-signature h.0.0 p)
+    ∙ ap (λ gs. signature p ∷ gs) (same-signatures qs ps h.1)
 
 -- the function that a call from outside is of
 record Called (fs : List FlatFunc) (g : ℕ) (args : List ℕ) : Type 0 where
@@ -168,7 +194,8 @@ record Called (fs : List FlatFunc) (g : ℕ) (args : List ℕ) : Type 0 where
   there : slice_get fs g ≡ Some function
   count : length args ≡ length function.args
 
-called : (fs : List FlatFunc) (g : ℕ) (args : List ℕ) (h : Signature) → slice_get (map signature fs) g ≡ Some h → length args ≡ h.args → Called fs g args
+called : (fs : List FlatFunc) (g : ℕ) (args : List ℕ) (h : Signature) → slice_get (map signature fs) g ≡ Some h
+    → length args ≡ h.args → Called fs g args
 called fs g args h there count = by (slice_get fs g) refl
   where
     found : option_map signature (slice_get fs g) ≡ Some h
@@ -191,7 +218,8 @@ extends-itself m h x = (refl, small (map.get m x) (h x))
     small None k = tt
     small (Some b) k = k.2
 
-pub spilled-refines : MakesWords → (qs ps : List FlatFunc) → IsWellFormed ps → HasWords ps → SpilledFunctions qs ps → Refines (meaning qs) (meaning ps)
+pub spilled-refines : MakesWords → (qs ps : List FlatFunc) → IsWellFormed ps → HasWords ps → SpilledFunctions qs ps
+    → Refines (meaning qs) (meaning ps)
 spilled-refines makes qs ps formed words spilled = record {
   same = same-signatures qs ps spilled;
   calls = λ g args m given_answers choices fuel is good has.
@@ -201,8 +229,17 @@ spilled-refines makes qs ps formed words spilled = record {
       let c = called ps g args is.signature is.there is.count in
       let well = and-second (names_differ ps) (list_all (is_well_formed_function ps) ps) formed in
       let e : Extra = λ x. None in
-      let follows = enter-follows makes qs ps well words spilled q p (callees-follow makes qs ps well words spilled fuel) g c.function c.there args c.count is.words e start start
-      (record { memory = extends-itself m is.in_data; trace = refl; answers = refl; words = is.answer_words; choices = good; fuel = refl }) (λ x less. refl) in
-      let a = answers e c.function (enter forgets_none q (slice_get qs g) args start) (λ ds. enter forgets_none p (slice_get ps g) args (given start ds)) (λ x less. refl) follows has in
+      let follows = enter-follows makes qs ps well words spilled q p
+      (callees-follow makes qs ps well words spilled fuel) g c.function c.there args c.count is.words e start start
+      (record {
+        memory = extends-itself m is.in_data;
+        trace = refl;
+        answers = refl;
+        words = is.answer_words;
+        choices = good;
+        fuel = refl;
+      }) (λ x less. refl) in
+      let a = answers e c.function (enter forgets_none q (slice_get qs g) args start)
+      (λ ds. enter forgets_none p (slice_get ps g) args (given start ds)) (λ x less. refl) follows has in
       (a.choices, a.good, a.shows);
 }

@@ -1,5 +1,6 @@
 -- Buffers, callees and buffers nested in one another, of functions in register form.
-use Rattle.std.proofs.Common.{◌≡◌, ℕ, zero, suc, ◌+◌, ◌*◌, ◌≤◌, max, List, [], ◌∷◌, ◌++◌, map, refl, sym, ap, ◌∙◌, arith, append-nil, append_assoc}
+use Rattle.std.proofs.Common.{◌≡◌, ℕ, zero, suc, ◌+◌, ◌*◌, ◌≤◌, max, List, [], ◌∷◌, ◌++◌}
+use Rattle.std.proofs.Common.{map, refl, sym, ap, ◌∙◌, arith, append-nil, append_assoc}
 use Rattle.std.specs.Prelude.{sum}
 use Rattle.std.specs.List.{flat_map, fold}
 use Rattle.br_flatimp.specs.declared.program.Stmt.{Stmt}
@@ -8,7 +9,8 @@ use Rattle.br_flatimp.specs.declared.program.Stmt.TheViews.{roll-Stmt}
 use Rattle.br_flatimp.specs.declared.program.FlatFunc.{FlatFunc}
 use Rattle.br_flatimp.specs.Parts.{parts, gathered, own_callees, callees}
 use Rattle.br_flatimp.specs.Sizes.{largest, own_bytes, nest}
-use Rattle.br_spill.specs.Spill.{Layout, Fits, passes, takes, joined, spilled, in_buffer, spilled_function, own_buffers, buffers}
+use Rattle.br_spill.specs.Spill.{Layout, Fits, passes, takes, joined, spilled}
+use Rattle.br_spill.specs.Spill.{in_buffer, spilled_function, own_buffers, buffers}
 use Rattle.br_spill.proofs.Neutral.{Counted, total, alone, same-body}
 
 -- ---- sums
@@ -79,7 +81,8 @@ nest-grows l f fits = by l.slots fits.few
     by : (n : ℕ) → n ≤ f.names → total nested (in_buffer n (body_of l f)) ≤ nest f + 4 * f.names
     by zero few = omega (arith, same)
     by (suc n) few =
-        let is : total nested (roll-Stmt (Stmt-F.Stackalloc 3 (4 * suc n) (body_of l f)) ∷ []) ≡ 4 * suc n + max (total nested (body_of l f)) 0 = alone nested (Stmt-F.Stackalloc 3 (4 * suc n) (body_of l f)) in
+        let is : total nested (roll-Stmt (Stmt-F.Stackalloc 3 (4 * suc n) (body_of l f)) ∷ []) ≡ 4 * suc n
+        + max (total nested (body_of l f)) 0 = alone nested (Stmt-F.Stackalloc 3 (4 * suc n) (body_of l f)) in
         omega (arith, is, same, few)
 
 -- ---- callees
@@ -123,7 +126,8 @@ callees-stay l f = callees-all (in_buffer l.slots (body_of l f)) ∙ by l.slots 
 
     by : (n : ℕ) → total called_in (in_buffer n (body_of l f)) ≡ total called_in f.body
     by zero = same
-    by (suc n) = alone called_in (Stmt-F.Stackalloc 3 (4 * suc n) (body_of l f)) ∙ append-nil (total called_in (body_of l f)) ∙ same
+    by (suc n) = alone called_in (Stmt-F.Stackalloc 3 (4 * suc n) (body_of l f))
+        ∙ append-nil (total called_in (body_of l f)) ∙ same
 
 -- ---- how many buffers
 
@@ -172,6 +176,7 @@ no-slots l f few = by l.slots few
     by : (n : ℕ) → total counted (in_buffer n (body_of l f)) ≤ buffers f → n ≡ 0
     by zero e = refl
     by (suc n) e =
-        let is : total counted (roll-Stmt (Stmt-F.Stackalloc 3 (4 * suc n) (body_of l f)) ∷ []) ≡ 1 + (0 + total counted (body_of l f)) = alone counted (Stmt-F.Stackalloc 3 (4 * suc n) (body_of l f)) in
+        let is : total counted (roll-Stmt (Stmt-F.Stackalloc 3 (4 * suc n) (body_of l f)) ∷ [])
+        ≡ 1 + (0 + total counted (body_of l f)) = alone counted (Stmt-F.Stackalloc 3 (4 * suc n) (body_of l f)) in
         let same : total counted (body_of l f) ≡ buffers f = same-body counted l f.args f.results f.body in
         absurd (omega (arith, is, same, e))

@@ -1,10 +1,13 @@
--- The flat statements that pass words in registers, of each statement of a flat program. A name has a place: a
--- register, or a word of one buffer that stands around the body of its function. A word of the buffer is loaded to
--- a spare register before it is read and stored from one after it is written. Words are passed in registers that
--- hold no name. With at most 32 registers the statements are in register form; with more, a register of each name
+-- The flat statements that pass words in registers, of each statement of a flat program. A
+-- name has a place: a register, or a word of one buffer that stands around the body of its
+-- function. A word of the buffer is loaded to a spare register before it is read and stored
+-- from one after it is written. Words are passed in registers that hold no name. With at
+-- most 32 registers the statements are in register form; with more, a register of each name
 -- is left to whoever gives them new ones.
-use Rattle.std.specs.Prelude.{◌≡◌, ℕ, zero, suc, ◌+◌, ◌-◌, ◌*◌, ◌^◌, ◌<◌, ◌≤◌, Bool, true, ◌&&◌, ◌||◌, List, [], ◌∷◌, ◌++◌, map, sum, length, IsTrue, min, nat_lt, nat_le, ◌==◌, pos, if◌then◌else◌}
-use Rattle.std.specs.List.{flat_map, list_all}
+use Rattle.std.specs.Prelude.{◌≡◌, ℕ, zero, suc, ◌+◌, ◌-◌, ◌*◌, ◌^◌, ◌<◌, ◌≤◌, Bool}
+use Rattle.std.specs.Prelude.{true, ◌&&◌, ◌||◌, List, [], ◌∷◌, ◌++◌, map, sum, length}
+use Rattle.std.specs.Prelude.{IsTrue, min, nat_lt, nat_le, ◌==◌, pos, if◌then◌else◌}
+use Rattle.std.specs.List.{list_all}
 use Rattle.br_words.specs.declared.operation.BinOp.TheVariants.{Add}
 use Rattle.br_words.specs.declared.size.Size.TheVariants.{Four}
 use Rattle.br_flatimp.specs.declared.program.Operand.{Operand}
@@ -21,6 +24,7 @@ use Rattle.br_spill.specs.declared.place.Place.TheVariants.{Register, Slot}
 use Rattle.br_spill.specs.declared.place.Kind.{Kind}
 use Rattle.br_spill.specs.declared.place.Kind.TheVariants.{Narrow, Wide}
 use Rattle.br_spill.specs.declared.place.Places.{Places}
+pub use Rattle.br_flatimp.specs.Parts.{joined}
 use Rattle.br_flatimp.specs.Parts.{throughout}
 use Rattle.br_flatimp.specs.Liveness.{has_no_dead, has_no_dead_but_copies}
 use Rattle.br_flatimp.specs.Missed.{has_no_missed}
@@ -41,8 +45,9 @@ pub record Layout : Type 0 where
   -- the registers are the numbers below this one
   pub registers : ℕ
 
--- A register that may hold a name, of so many: none of those that pass words, and in a function with a buffer none
--- of those that are kept aside: 3 for the buffer's address, 4 and 5 for words on their way.
+-- A register that may hold a name, of so many: none of those that pass words, and in a
+-- function with a buffer none of those that are kept aside: 3 for the buffer's
+-- address, 4 and 5 for words on their way.
 abbrev pub holds_names : ℕ → ℕ → ℕ → Bool
 holds_names registers slots r =
     ((nat_le 3 r && nat_le r 9) || (nat_le 18 r && nat_lt r registers)) && ((slots == 0) || nat_le 6 r)
@@ -51,8 +56,9 @@ abbrev pub is_inside : ℕ → ℕ → Place → Bool
 is_inside registers slots (Register r) = holds_names registers slots r
 is_inside registers slots (Slot k) = nat_lt k slots
 
--- A layout for so many names: each has a place of its own. The registers that pass words and those that are kept
--- aside are among the registers, which are no more than the names that a function may have.
+-- A layout for so many names: each has a place of its own. The registers that pass
+-- words and those that are kept aside are among the registers, which are no more
+-- than the names that a function may have.
 pub record Fits (names : ℕ) (l : Layout) : Type 0 where
   pub inside : (x : ℕ) → x < names → IsTrue (is_inside l.registers l.slots (l.place x))
   pub apart : (x y : ℕ) → x < names → y < names → l.place x ≡ l.place y → x ≡ y
@@ -66,13 +72,15 @@ pub record Fits (names : ℕ) (l : Layout) : Type 0 where
 abbrev pub fetch : ℕ → ℕ → List Stmt
 fetch k r =
     if nat_lt k 512 then roll-Stmt (Stmt-F.Load r Four 3 (pos (4 * k))) ∷ []
-    else roll-Stmt (Stmt-F.Lit r (4 * k)) ∷ roll-Stmt (Stmt-F.Op r Add r (operand.Name 3)) ∷ roll-Stmt (Stmt-F.Load r Four r (pos 0)) ∷ []
+    else roll-Stmt (Stmt-F.Lit r (4 * k)) ∷ roll-Stmt (Stmt-F.Op r Add r (operand.Name 3))
+    ∷ roll-Stmt (Stmt-F.Load r Four r (pos 0)) ∷ []
 
 -- stores a word of the buffer from a register other than 5
 abbrev pub put_away : ℕ → ℕ → List Stmt
 put_away k r =
     if nat_lt k 512 then roll-Stmt (Stmt-F.Store Four 3 r (pos (4 * k))) ∷ []
-    else roll-Stmt (Stmt-F.Lit 5 (4 * k)) ∷ roll-Stmt (Stmt-F.Op 5 Add 5 (operand.Name 3)) ∷ roll-Stmt (Stmt-F.Store Four 5 r (pos 0)) ∷ []
+    else roll-Stmt (Stmt-F.Lit 5 (4 * k)) ∷ roll-Stmt (Stmt-F.Op 5 Add 5 (operand.Name 3))
+    ∷ roll-Stmt (Stmt-F.Store Four 5 r (pos 0)) ∷ []
 
 -- ---- names that are read and written
 
@@ -138,23 +146,23 @@ in_order a (suc n) = a ∷ in_order (suc a) n
 
 -- ---- statements
 
-abbrev pub joined : List (List Stmt) → List Stmt
-joined = flat_map (λ body. body)
-
 -- a statement, given the statements of those in it
 abbrev pub spilled_step : Layout → Stmt-F (List Stmt) → List Stmt
 spilled_step l (Stmt-F.Lit x n) = roll-Stmt (Stmt-F.Lit (at (l.place x) 4) n) ∷ keep (l.place x)
 spilled_step l (Stmt-F.Copy x y) = copy (l.place x) (l.place y)
 spilled_step l (Stmt-F.Op x op y z) =
     bring (l.place y) 4 ++ (bring_operand l z
-    ++ roll-Stmt (Stmt-F.Op (at (l.place x) 4) op (at (l.place y) 4) (operand_at l z)) ∷ keep (l.place x))
+    ++ roll-Stmt (Stmt-F.Op (at (l.place x) 4) op (at (l.place y) 4) (operand_at l z))
+    ∷ keep (l.place x))
 spilled_step l (Stmt-F.Load x size y offset) =
-    bring (l.place y) 4 ++ roll-Stmt (Stmt-F.Load (at (l.place x) 4) size (at (l.place y) 4) offset) ∷ keep (l.place x)
+    bring (l.place y) 4 ++ roll-Stmt (Stmt-F.Load (at (l.place x) 4) size (at (l.place y) 4) offset)
+    ∷ keep (l.place x)
 spilled_step l (Stmt-F.Store size y z offset) =
     bring (l.place y) 4 ++ (bring (l.place z) 5
     ++ roll-Stmt (Stmt-F.Store size (at (l.place y) 4) (at (l.place z) 5) offset) ∷ [])
 spilled_step l (Stmt-F.Table x size bytes y) =
-    bring (l.place y) 4 ++ roll-Stmt (Stmt-F.Table (at (l.place x) 4) size bytes (at (l.place y) 4)) ∷ keep (l.place x)
+    bring (l.place y) 4 ++ roll-Stmt (Stmt-F.Table (at (l.place x) 4) size bytes (at (l.place y) 4))
+    ∷ keep (l.place x)
 spilled_step l (Stmt-F.Stackalloc x n body) =
     roll-Stmt (Stmt-F.Stackalloc (at (l.place x) 4) n (keep (l.place x) ++ joined body)) ∷ []
 spilled_step l (Stmt-F.If test first second) =
@@ -163,11 +171,14 @@ spilled_step l (Stmt-F.Loop first test last) =
     roll-Stmt (Stmt-F.Loop (joined first ++ bring_test l test) (test_at l test) (joined last)) ∷ []
 spilled_step l (Stmt-F.Call xs g ys) =
     passes (map l.place ys) 10
-    ++ roll-Stmt (Stmt-F.Call (in_order 10 (length xs)) g (in_order 10 (length ys))) ∷ takes (map l.place xs) 10
+    ++ roll-Stmt (Stmt-F.Call (in_order 10 (length xs)) g (in_order 10 (length ys)))
+    ∷ takes (map l.place xs) 10
 spilled_step l (Stmt-F.Read x y) =
-    bring (l.place y) 4 ++ roll-Stmt (Stmt-F.Read (at (l.place x) 4) (at (l.place y) 4)) ∷ keep (l.place x)
+    bring (l.place y) 4
+    ++ roll-Stmt (Stmt-F.Read (at (l.place x) 4) (at (l.place y) 4)) ∷ keep (l.place x)
 spilled_step l (Stmt-F.Write y z) =
-    bring (l.place y) 4 ++ (bring (l.place z) 5 ++ roll-Stmt (Stmt-F.Write (at (l.place y) 4) (at (l.place z) 5)) ∷ [])
+    bring (l.place y) 4 ++ (bring (l.place z) 5
+    ++ roll-Stmt (Stmt-F.Write (at (l.place y) 4) (at (l.place z) 5)) ∷ [])
 
 -- the statements of a statement
 abbrev pub spilled : Layout → Stmt → List Stmt
@@ -187,13 +198,15 @@ spilled_function l f = record {
   args = in_order 10 (length f.args);
   results = in_order 10 (length f.results);
   names = l.registers;
-  body = in_buffer l.slots (takes (map l.place f.args) 10 ++ (joined (map (spilled l) f.body) ++ passes (map l.place f.results) 10));
+  body = in_buffer l.slots (takes (map l.place f.args) 10
+      ++ (joined (map (spilled l) f.body) ++ passes (map l.place f.results) 10));
 }
 
 -- functions, and those that come from them, each by a layout of its own that fits
 abbrev pub SpilledFunctions : List FlatFunc → List FlatFunc → Type 0
 SpilledFunctions [] [] = Unit {0}
-SpilledFunctions (q ∷ qs) (p ∷ ps) = ((l : Layout) × Fits p.names l × (q ≡ spilled_function l p)) × SpilledFunctions qs ps
+SpilledFunctions (q ∷ qs) (p ∷ ps) =
+    ((l : Layout) × Fits p.names l × (q ≡ spilled_function l p)) × SpilledFunctions qs ps
 SpilledFunctions [] (p ∷ ps) = ⊥
 SpilledFunctions (q ∷ qs) [] = ⊥
 
@@ -220,8 +233,9 @@ buffers f = sum (map (added own_buffers) f.body)
 
 -- ---- operands and dead statements
 
--- A function beside the one that it comes from. Where it has no more buffers than that one it misses no operand if
--- that one misses none, and has no dead statement but copies if that one has no dead one.
+-- A function beside the one that it comes from. Where it has no more buffers than
+-- that one it misses no operand if that one misses none, and has no dead statement
+-- but copies if that one has no dead one.
 pub record IsAsLean (q p : FlatFunc) : Type 0 where
   pub none_missed : buffers q ≤ buffers p → IsTrue (has_no_missed p) → IsTrue (has_no_missed q)
   pub none_dead : buffers q ≤ buffers p → IsTrue (has_no_dead p) → IsTrue (has_no_dead_but_copies q)
@@ -233,9 +247,9 @@ AreAsLean (q ∷ qs) (p ∷ ps) = IsAsLean q p × AreAsLean qs ps
 AreAsLean [] (p ∷ ps) = ⊥
 AreAsLean (q ∷ qs) [] = ⊥
 
--- A function in register form beside the one that it comes from. Where it has no buffer it misses no operand if
--- that one misses none, and has no dead statement but copies if that one has no dead one. One of at most 21
--- names gets no buffer.
+-- A function in register form beside the one that it comes from. Where it has no buffer it misses
+-- no operand if that one misses none, and has no dead statement but copies if that one has no dead
+-- one. One of at most 21 names gets no buffer.
 pub record StaysLean (q p : FlatFunc) : Type 0 where
   pub none_missed : buffers q ≡ 0 → IsTrue (has_no_missed p) → IsTrue (has_no_missed q)
   pub none_dead : buffers q ≡ 0 → IsTrue (has_no_dead p) → IsTrue (has_no_dead_but_copies q)
@@ -283,8 +297,8 @@ few_places x = Register (register_of 3 x)
 abbrev pub more_places : ℕ → Place
 more_places x = if nat_lt x 18 then Register (register_of 6 x) else Slot (min x 1048575 - 18)
 
--- Up to 21 names have registers alone. Of more, the first 18 have registers. A function has at most 1,048,576
--- names; a number past the last of them counts as the last.
+-- Up to 21 names have registers alone. Of more, the first 18 have registers. A function has at most
+-- 1,048,576 names; a number past the last of them counts as the last.
 abbrev pub layout_of : ℕ → Layout
 layout_of names =
     if nat_le names 21 then record { place = few_places; slots = 0; registers = 32 }
@@ -293,8 +307,8 @@ layout_of names =
 abbrev pub wide_places : ℕ → Place
 wide_places x = Register (32 + min x 1048543)
 
--- Each name has a register of its own past the first 32, while these are no more than the names that a function
--- may have. Past that the layout is as it is in register form.
+-- Each name has a register of its own past the first 32, while these are no more than the names
+-- that a function may have. Past that the layout is as it is in register form.
 abbrev pub wide_layout : ℕ → Layout
 wide_layout names =
     if nat_le names 1048544 then record { place = wide_places; slots = 0; registers = 32 + names }

@@ -3,8 +3,10 @@
 ghost use Rattle.std.specs.Prelude.{◌≡◌, [], ◌∷◌, ◌++◌, true, map, nat_lt, OnOk};
 ghost use Rattle.std.specs.List.{list_all};
 ghost use Rattle.br_flatimp.specs.Parts.{throughout};
-ghost use Rattle.br_flatimp.specs.declared.program.Stmt.TheVariants.{Call, Lit, Load, Op, Read, Store, Table, Write};
-ghost use Rattle.br_spill.specs.Spill.{IsNear, bring, bring_operand, bring_test, joined, keep, layout_in, operand_at, spilled, test_at, words_fit};
+ghost use Rattle.br_flatimp.specs.declared.program.Stmt.TheVariants.{Call, Lit, Load, Op, Read};
+ghost use Rattle.br_flatimp.specs.declared.program.Stmt.TheVariants.{Store, Table, Write};
+ghost use Rattle.br_spill.specs.Spill.{IsNear, bring, bring_operand, bring_test, joined, keep};
+ghost use Rattle.br_spill.specs.Spill.{layout_in, operand_at, spilled, test_at, words_fit};
 
 use crate::moves::{OTHER_SPARE, SPARE, at, bring, copy, keep};
 use crate::passing::{passes, registers, takes};

@@ -3,12 +3,13 @@
 ghost use Rattle.std.specs.Prelude.{◌≡◌, ◌+◌, ◌<◌, ◌^◌, ◌&&◌, length, nat_le};
 ghost use Rattle.std.specs.List.{list_all};
 ghost use Rattle.br_flatimp.specs.Parts.{operand_names, test_names, throughout};
-ghost use Rattle.br_flatimp.specs.WellFormed.{are_registers, is_in_order, is_passing, is_register_function, uses_registers};
+ghost use Rattle.br_flatimp.specs.WellFormed.{are_registers, is_in_order, is_passing};
+ghost use Rattle.br_flatimp.specs.WellFormed.{is_register_function, uses_registers};
 
 use br_flatimp::{Cond, FlatFunc, FlatProgram, Operand, Stmt};
 
-/// Whether each name of a program is a register, from 3 to 31, and words are passed in 10, 11 and so
-/// on in order. A well formed program of which this holds is in register form.
+/// Whether each name of a program is a register, from 3 to 31, and words are passed in 10, 11 and
+/// so on in order. A well formed program of which this holds is in register form.
 pub fn is_in_register_form(p: &FlatProgram) -> bool
     ensures { result ≡ list_all is_register_function p.now.funcs }
 {
@@ -121,7 +122,8 @@ fn test_fits(test: Cond) -> bool
 }
 
 fn call_fits(xs: &[u32], ys: &[u32]) -> bool
-    ensures { result ≡ (are_registers xs.now && are_registers ys.now && (is_passing xs.now && is_passing ys.now)) }
+    ensures { result ≡ (are_registers xs.now && are_registers ys.now
+        && (is_passing xs.now && is_passing ys.now)) }
 {
     are_registers(xs) && are_registers(ys) && are_passed(xs) && are_passed(ys)
 }

@@ -16,8 +16,9 @@ const FIRST: u32 = 10;
 // How many registers pass words.
 const MOST_PASSED: usize = 8;
 
-/// As many registers that pass words, in order. Past the eighth word no register is left: the answer is
-/// then want of memory too. No function and no call of a well formed program passes that many.
+/// As many registers that pass words, in order. Past the eighth word no register
+/// is left: the answer is then want of memory too. No function and no call of a
+/// well formed program passes that many.
 pub(crate) fn registers(alloc: Global, count: usize) -> Result<Items<u32>, NoMemory>
     ensures registers { IfOk result (λ xs. xs ≡ in_order 10 count) }
     ensures few { OnOk result (count ≤ 8) }

@@ -3,7 +3,8 @@
 ghost use Rattle.std.specs.Prelude.{◌≡◌, ◌<◌, ◌≤◌};
 ghost use Rattle.br_spill.specs.Spill.{IsNear, layout_in, layout_of, register_of};
 
-// The most names that have registers alone, and how many have registers in a function with a buffer.
+// The most names that have registers alone, and how many have
+// registers in a function with a buffer.
 const MOST_ALONE: u32 = 21;
 
 const MOST_BESIDE: u32 = 18;

@@ -3,7 +3,9 @@
 ghost use Rattle.std.specs.Prelude.{◌≡◌, ◌≤◌, true, IfOk, OnOk};
 ghost use Rattle.br_flatimp.specs.Refines.{Refines, meaning};
 ghost use Rattle.br_flatimp.specs.WellFormed.{IsRegisterForm, IsWellFormed};
-ghost use Rattle.br_spill.specs.Spill.{AreAsLean, HasWords, SpilledFunctions, StayLean, function_words_fit, in_buffer, layout_by, program_by, spilled_function, spilled_program, wide_program};
+ghost use Rattle.br_spill.specs.Spill.{AreAsLean, HasWords, SpilledFunctions, StayLean};
+ghost use Rattle.br_spill.specs.Spill.{function_words_fit, in_buffer, layout_by, program_by};
+ghost use Rattle.br_spill.specs.Spill.{spilled_function, spilled_program, wide_program};
 
 use crate::bodies::statements;
 use crate::laws::{
@@ -21,8 +23,8 @@ use std::alloc::Global;
 
 /// The program in register form of a well formed flat program. A function of at most 21 names keeps
 /// them in registers; of more, the first 18 names have registers, and the others words of a buffer
-/// around its body. A function that has no buffer then misses no operand where it missed none, and has
-/// no dead statement but copies where it had no dead one. Answers want of memory alone.
+/// around its body. A function that has no buffer then misses no operand where it missed none, and
+/// has no dead statement but copies where it had no dead one. Answers want of memory alone.
 pub fn spill(alloc: Global, p: FlatProgram) -> Result<FlatProgram, NoMemory>
     requires { IsWellFormed p.funcs }
     ensures program { IfOk result (λ q. q.funcs ≡ spilled_program p.funcs) }

@@ -1,6 +1,7 @@
 -- Where no function has a path of calls to itself, a path of calls within the program has no more functions
 -- than the program, so that as many calls as functions reach all that a function may need.
-use Rattle.std.proofs.Common.{◌≡◌, ℕ, zero, suc, ◌+◌, ◌<◌, ◌≤◌, Bool, true, false, eqb, List, [], ◌∷◌, Option, Some, None, length, get_or, set, map, min, refl, sym, ap, ◌∙◌, arith, ⊎_elim, Contains}
+use Rattle.std.proofs.Common.{◌≡◌, ℕ, zero, suc, ◌+◌, ◌<◌, ◌≤◌, Bool, true, false, eqb, List, [], ◌∷◌, Option, Some}
+use Rattle.std.proofs.Common.{None, length, get_or, set, map, min, refl, sym, ap, ◌∙◌, arith, ⊎_elim, Contains}
 use Rattle.std.proofs.lemmas.Bool.{false≢true, or_cases, or_parts, eqb-true, false_from_ne_true, eqb-false}
 use Rattle.std.proofs.lemmas.List.{get_or-set_other}
 use Rattle.std.proofs.lemmas.Option.{slice_get_within}
@@ -37,7 +38,8 @@ others_stay : (ws : List ℕ) (x : ℕ) (xs : List ℕ) → has xs x ≡ false �
 others_stay ws x [] apart = refl
 others_stay ws x (y ∷ ys) apart =
     let parts = or_parts (eqb x y) (has ys x) apart in
-    let other : get_or (set ws x 0) y 0 ≡ get_or ws y 0 = get_or-set_other ws x y 0 0 (λ (e : y ≡ x). eqb-false x y parts.0 (sym e)) in
+    let other : get_or (set ws x 0) y 0 ≡ get_or ws y 0 =
+    get_or-set_other ws x y 0 0 (λ (e : y ≡ x). eqb-false x y parts.0 (sym e)) in
     omega (arith, other, others_stay ws x ys parts.1)
 
 weights_apart : (xs ws : List ℕ) → Apart xs → weights_of ws xs ≤ all_weights ws
@@ -50,7 +52,8 @@ abbrev Chain : List FlatFunc → ℕ → List ℕ → Type 0
 Chain fs f [] = Unit {0}
 Chain fs f (h ∷ hs) = Calls fs f h × (h < length fs) × Chain fs h hs
 
-chain_path : (fs : List FlatFunc) (f : ℕ) (hs : List ℕ) (q : ℕ) → Chain fs f hs → has hs q ≡ true → (between : List ℕ) × CallPath fs f between q
+chain_path : (fs : List FlatFunc) (f : ℕ) (hs : List ℕ) (q : ℕ) → Chain fs f hs → has hs q ≡ true
+    → (between : List ℕ) × CallPath fs f between q
 chain_path fs f [] q chain stands = absurd (false≢true stands)
 chain_path fs f (h ∷ hs) q chain stands =
     ⊎_elim
@@ -61,7 +64,8 @@ chain_path fs f (h ∷ hs) q chain stands =
 chain_apart : (fs : List FlatFunc) → HasNoRecursion fs → (f : ℕ) (hs : List ℕ) → Chain fs f hs → Apart (f ∷ hs)
 chain_apart fs none f [] chain = (refl, tt)
 chain_apart fs none f (h ∷ hs) chain = (
-  false_from_ne_true (has (h ∷ hs) f) (λ stands. let path = chain_path fs f (h ∷ hs) f chain stands in none f path.0 path.1),
+  false_from_ne_true (has (h ∷ hs) f)
+      (λ stands. let path = chain_path fs f (h ∷ hs) f chain stands in none f path.0 path.1),
   chain_apart fs none h hs chain.2,
 )
 
@@ -83,9 +87,16 @@ chain_ones : (fs : List FlatFunc) (f : ℕ) (hs : List ℕ) → Chain fs f hs �
 chain_ones fs f [] chain = refl
 chain_ones fs f (h ∷ hs) chain = omega (arith, one_at fs h chain.1, chain_ones fs h hs chain.2)
 
-chain_short : (fs : List FlatFunc) → HasNoRecursion fs → (f : ℕ) → f < length fs → (hs : List ℕ) → Chain fs f hs → length hs < length fs
+chain_short : (fs : List FlatFunc) → HasNoRecursion fs → (f : ℕ) → f < length fs → (hs : List ℕ) → Chain fs f hs
+    → length hs < length fs
 chain_short fs none f inside hs chain =
-    omega (arith, weights_apart (f ∷ hs) (map one fs) (chain_apart fs none f hs chain), one_at fs f inside, chain_ones fs f hs chain, all_ones fs)
+    omega (
+      arith,
+      weights_apart (f ∷ hs) (map one fs) (chain_apart fs none f hs chain),
+      one_at fs f inside,
+      chain_ones fs f hs chain,
+      all_ones fs,
+    )
 
 -- ---- one call deeper changes nothing where no path is so long
 
@@ -101,7 +112,8 @@ module _ (fs : List FlatFunc) where
       → ((g : ℕ) → Calls fs f g → needs_at low fs g ≡ needs_at high fs g)
       → largest (map (needs_at low fs) (callees caller)) ≡ largest (map (needs_at high fs) (callees caller))
   callees_same low high caller f at same =
-      ap largest (map_same_in (needs_at low fs) (needs_at high fs) (callees caller) (λ g called. same g (record { caller = caller; at = at; called = called })))
+      ap largest (map_same_in (needs_at low fs) (needs_at high fs) (callees caller)
+      (λ g called. same g (record { caller = caller; at = at; called = called })))
 
   -- where paths from f have fewer calls than so many
   abbrev Short : ℕ → ℕ → Type 0
@@ -111,14 +123,18 @@ module _ (fs : List FlatFunc) where
   shorter f n g call inside short hs chain = omega (arith, short (g ∷ hs) (call, inside, chain))
 
   -- a function that is called, where its needs stay, or a number of no function
-  called_stays : (n g : ℕ) (o : Option FlatFunc) → slice_get fs g ≡ o → (g < length fs → needs_at n fs g ≡ needs_at (suc n) fs g) → needs_at n fs g ≡ needs_at (suc n) fs g
-  called_stays n g None at stays = ap (need_within n fs) at ∙ none_needs n fs ∙ sym (none_needs (suc n) fs) ∙ ap (need_within (suc n) fs) (sym at)
+  called_stays : (n g : ℕ) (o : Option FlatFunc) → slice_get fs g ≡ o
+      → (g < length fs → needs_at n fs g ≡ needs_at (suc n) fs g) → needs_at n fs g ≡ needs_at (suc n) fs g
+  called_stays n g None at stays =
+      ap (need_within n fs) at ∙ none_needs n fs ∙ sym (none_needs (suc n) fs) ∙ ap (need_within (suc n) fs) (sym at)
   called_stays n g (Some caller) at stays = stays (slice_get_within fs g caller at)
 
-  stays_at : (n f : ℕ) (o : Option FlatFunc) → slice_get fs f ≡ o → ((g : ℕ) → Calls fs f g → needs_at n fs g ≡ needs_at (suc n) fs g)
+  stays_at : (n f : ℕ) (o : Option FlatFunc) → slice_get fs f ≡ o
+      → ((g : ℕ) → Calls fs f g → needs_at n fs g ≡ needs_at (suc n) fs g)
       → need_within (suc n) fs o ≡ need_within (suc (suc n)) fs o
   stays_at n f None at same = refl
-  stays_at n f (Some caller) at same = ap (λ (m : ℕ). min 4294967295 (own_need caller + m)) (callees_same n (suc n) caller f at same)
+  stays_at n f (Some caller) at same =
+      ap (λ (m : ℕ). min 4294967295 (own_need caller + m)) (callees_same n (suc n) caller f at same)
 
   stays : (n f : ℕ) → Short f n → needs_at n fs f ≡ needs_at (suc n) fs f
   stays zero f short = absurd (omega (arith, short [] tt))
@@ -128,25 +144,30 @@ module _ (fs : List FlatFunc) where
 
 -- ---- what a function needs
 
-of_option : (fs : List FlatFunc) (o : Option FlatFunc) → need_within (length fs) fs o ≡ unwrap_or (option_map (need fs) o) 0
+of_option : (fs : List FlatFunc) (o : Option FlatFunc)
+    → need_within (length fs) fs o ≡ unwrap_or (option_map (need fs) o) 0
 of_option fs None = none_needs (length fs) fs
 of_option fs (Some f) = refl
 
-all_of_option : (fs : List FlatFunc) (ns : List ℕ) → largest (map (needs_at (length fs) fs) ns) ≡ largest (map (λ g. unwrap_or (option_map (need fs) (slice_get fs g)) 0) ns)
+all_of_option : (fs : List FlatFunc) (ns : List ℕ) → largest (map (needs_at (length fs) fs) ns)
+    ≡ largest (map (λ g. unwrap_or (option_map (need fs) (slice_get fs g)) 0) ns)
 all_of_option fs [] = refl
 all_of_option fs (g ∷ ns) = omega (arith, of_option fs (slice_get fs g), all_of_option fs ns)
 
-needed : (fs : List FlatFunc) → HasNoRecursion fs → (f : ℕ) (caller : FlatFunc) → slice_get fs f ≡ Some caller → f < length fs → (n : ℕ) → length fs ≡ n
+needed : (fs : List FlatFunc) → HasNoRecursion fs → (f : ℕ) (caller : FlatFunc) → slice_get fs f ≡ Some caller
+    → f < length fs → (n : ℕ) → length fs ≡ n
     → need_within n fs (Some caller) ≡ min 4294967295 (own_need caller + largest (map (needs_at n fs) (callees caller)))
 needed fs none f caller at inside zero len = absurd (omega arith)
 needed fs none f caller at inside (suc n) len =
     ap (λ (m : ℕ). min 4294967295 (own_need caller + m))
     (callees_same fs n (suc n) caller f at
     (λ g call. called_stays fs n g (slice_get fs g) refl
-    (λ within. stays fs n g (shorter fs f n g call within (λ hs chain. omega (arith, chain_short fs none f inside hs chain))))))
+    (λ within. stays fs n g
+    (shorter fs f n g call within (λ hs chain. omega (arith, chain_short fs none f inside hs chain))))))
 
 pub needs_add_up : (fs : List FlatFunc) (f : ℕ) (caller : FlatFunc) → HasNoRecursion fs → slice_get fs f ≡ Some caller
-    → need fs caller ≡ min 4294967295 (own_need caller + largest (map (λ g. unwrap_or (option_map (need fs) (slice_get fs g)) 0) (callees caller)))
+    → need fs caller ≡ min 4294967295 (own_need caller
+    + largest (map (λ g. unwrap_or (option_map (need fs) (slice_get fs g)) 0) (callees caller)))
 needs_add_up fs f caller none at =
     needed fs none f caller at (slice_get_within fs f caller at) (length fs) refl
     ∙ ap (λ (m : ℕ). min 4294967295 (own_need caller + m)) (all_of_option fs (callees caller))

@@ -3,7 +3,8 @@
 ghost use Rattle.std.specs.Prelude.{◌≡◌, ◌+◌, true, IsTrue, length, slice_set, eqb, count_by, ◌≤◌};
 ghost use Rattle.std.specs.List.{flat_map};
 ghost use Rattle.std.specs.Set.{distinct_count};
-ghost use Rattle.br_flatimp.specs.Parts.{function_names, operand_names, statement_names, test_names};
+ghost use Rattle.br_flatimp.specs.Parts.{function_names, operand_names};
+ghost use Rattle.br_flatimp.specs.Parts.{statement_names, test_names};
 ghost use Rattle.br_flatimp.specs.WellFormed.{are_below};
 ghost use Rattle.br_stack_need.specs.Marks.{marked};
 

@@ -1,7 +1,8 @@
-// The bytes of stack that functions need, computed in 32 bits. A number past the type's end stays at
-// the type's end.
+// The bytes of stack that functions need, computed in 32 bits. A number past
+// the type's end stays at the type's end.
 
-ghost use Rattle.std.specs.Prelude.{◌≡◌, ℕ, ◌+◌, ◌<◌, [], IsTrue, min, length, map, slice_index, slice_index_or, IfOk};
+ghost use Rattle.std.specs.Prelude.{◌≡◌, ℕ, ◌+◌, ◌<◌, [], IsTrue, min, length};
+ghost use Rattle.std.specs.Prelude.{map, slice_index, slice_index_or, IfOk};
 ghost use Rattle.std.specs.List.{list_all};
 ghost use Rattle.br_flatimp.specs.Parts.{callees, function_names};
 ghost use Rattle.br_flatimp.specs.Sizes.{HasNoRecursion, largest, needs, own_need};
@@ -15,9 +16,10 @@ use br_flatimp::{FlatFunc, FlatProgram};
 use sqlite_items::Items;
 use std::alloc::Global;
 
-/// How many bytes of stack each function needs, in the order of the functions: a word for each of its
-/// different names and one more, its largest sum of nested buffer sizes, and the most that one of its
-/// callees needs. A number past 4,294,967,295 is given as that. The one error is want of memory.
+/// How many bytes of stack each function needs, in the order of the functions: a word
+/// for each of its different names and one more, its largest sum of nested buffer sizes,
+/// and the most that one of its callees needs. A number past 4,294,967,295 is given as
+/// that. The one error is want of memory.
 ///
 /// Names, buffers and calls take one walk of the program each. After that each round looks at all
 /// functions and calls and reaches one call further, and the first round that changes nothing ends
@@ -50,7 +52,9 @@ fn one_call_further(
 ) -> Result<Vec<u32>, NoMemory>
     requires { length own.now ≡ length table.now }
     ensures len { IfOk result (λ after. length after.items ≡ length table.now) }
-    ensures needs { IfOk result (λ after. (f : ℕ) → f < length table.now → slice_index after.items f ≡ min 4294967295 (slice_index own.now f + largest (map (λ g. slice_index needs.now g) (slice_index_or table.now f [])))) }
+    ensures needs { IfOk result (λ after. (f : ℕ) →
+        f < length table.now → slice_index after.items f ≡ min 4294967295 (slice_index own.now f
+        + largest (map (λ g. slice_index needs.now g) (slice_index_or table.now f [])))) }
 {
     let mut after = Vec::new(alloc);
     for (f, callees) in table.iter().enumerate() {

@@ -7,7 +7,8 @@ use Rattle.br_sexpr.specs.declared.tree.Tree.TheFolds.{map-Tree, para-roll-Tree}
 use Rattle.br_syntax.specs.declared.program.Expr.{Expr}
 use Rattle.br_syntax.specs.declared.program.Expr.TheVariants as expr
 use Rattle.br_syntax.specs.Shaped.{Shaped}
-use Rattle.br_syntax.specs.Denotes.{WithExpr, expression, expression_in, expression_of, with_expression, Places, WithPlaces, behind_of, places, places_in, with_places}
+use Rattle.br_syntax.specs.Denotes.{WithExpr, expression, expression_in, expression_of, with_expression}
+use Rattle.br_syntax.specs.Denotes.{Places, WithPlaces, behind_of, places, places_in, with_places}
 
 pub expression-out : (t : Tree) → expression t ≡ expression_in (map-Tree Tree WithExpr with_expression (out-Tree t))
 expression-out t = ap expression (sym (roll-out-Tree t)) ∙ para-roll-Tree (Shaped Expr) expression_in (out-Tree t)
@@ -18,7 +19,8 @@ expression-name at text = expression-out (tree.Name at text) ∙ rw tree.outs-Na
 pub expression-number : (at value : ℕ) → expression (tree.Number at value) ≡ Ok (expr.Literal value)
 expression-number at value = expression-out (tree.Number at value) ∙ rw tree.outs-Number refl
 
-pub expression-list : (at : ℕ) (items : List Tree) → expression (tree.List at items) ≡ expression_of at (map with_expression items)
+pub expression-list : (at : ℕ) (items : List Tree)
+    → expression (tree.List at items) ≡ expression_of at (map with_expression items)
 expression-list at items = expression-out (tree.List at items) ∙ rw tree.outs-List refl
 
 pub ruleset expressions = (expression-name, expression-number, expression-list)
@@ -32,10 +34,12 @@ places-name at text = places-out (tree.Name at text) ∙ rw tree.outs-Name refl
 pub places-number : (at value : ℕ) → places (tree.Number at value) ≡ places_in (number-F at value)
 places-number at value = places-out (tree.Number at value) ∙ rw tree.outs-Number refl
 
-pub places-list : (at : ℕ) (items : List Tree) → places (tree.List at items) ≡ places_in (list-F at (map with_places items))
+pub places-list : (at : ℕ) (items : List Tree)
+    → places (tree.List at items) ≡ places_in (list-F at (map with_places items))
 places-list at items = places-out (tree.List at items) ∙ rw tree.outs-List refl
 
-pub behind-list : (at : ℕ) (items : List Tree) (word : List ℕ) → (places (tree.List at items)).behind word ≡ behind_of at (map with_places items) word
+pub behind-list : (at : ℕ) (items : List Tree) (word : List ℕ)
+    → (places (tree.List at items)).behind word ≡ behind_of at (map with_places items) word
 behind-list at items word = ap (λ (p : Places). p.behind word) (places-list at items)
 
 pub ruleset commands = (places-name, places-number, places-list, behind-list)

@@ -16,7 +16,8 @@ pub none_joined : {A : Type 0} → (back : Shaped (List A)) → joined (Ok []) b
 none_joined (Ok xs) = refl
 none_joined (Err fault) = refl
 
-pub joined_one : {A : Type 0} → (front : Shaped (List A)) (part : Shaped A) (back : Shaped (List A)) → joined front ((λ p. p.0 ∷ p.1) <$> both part back) ≡ joined (with_one front part) back
+pub joined_one : {A : Type 0} → (front : Shaped (List A)) (part : Shaped A) (back : Shaped (List A))
+    → joined front ((λ p. p.0 ∷ p.1) <$> both part back) ≡ joined (with_one front part) back
 joined_one (Ok xs) (Ok x) (Ok ys) = ap Ok (sym (append_assoc xs (x ∷ []) ys))
 joined_one (Ok xs) (Ok x) (Err h) = refl
 joined_one (Ok xs) (Err g) (Ok ys) = refl

@@ -1,5 +1,6 @@
 -- What trees stand for keeps the limits of programs.
-use Rattle.std.proofs.Common.{◌≡◌, ◌≢◌, ℕ, ◌+◌, ◌≤◌, Bool, true, false, List, [], ◌∷◌, Ok, Err, Option, Some, None, length, map, refl, sym, subst, arith, codes, if◌then◌else◌}
+use Rattle.std.proofs.Common.{◌≡◌, ◌≢◌, ℕ, ◌+◌, ◌≤◌, Bool, true, false, List, [], ◌∷◌, Ok, Err, Option}
+use Rattle.std.proofs.Common.{Some, None, length, map, refl, sym, subst, arith, codes, if◌then◌else◌}
 use Rattle.std.specs.List.{list_all}
 use Rattle.std.specs.Str.{bytes_eq}
 use Rattle.std.proofs.lemmas.Grind.{common_steps}
@@ -19,10 +20,15 @@ use Rattle.br_syntax.specs.declared.word.CmdWord.TheVariants as c
 use Rattle.br_syntax.specs.Shape.{IsShaped, is_shaped_command, is_shaped_function, is_buffer_size}
 use Rattle.br_syntax.specs.Word.{cmd_word}
 use Rattle.br_syntax.specs.Shaped.{Shaped, both}
-use Rattle.br_syntax.specs.Denotes.{offset_of, word_of, functions, function, function_in, function_list, function_of, name, names, expression, buffer_size, buffer_size_in, argument_at, arguments_from, Places, WithPlaces, places, places_in, with_places, body_of, skip_of, set_of, unset_of, store_of, stackalloc_of, if_of, while_of, seq_of, target_of, call_of, interact_of, form_of, command_of, behind_of, commands}
+use Rattle.br_syntax.specs.Denotes.{offset_of, word_of, functions, function, function_in, function_list}
+use Rattle.br_syntax.specs.Denotes.{function_of, name, names, expression, buffer_size, buffer_size_in, argument_at}
+use Rattle.br_syntax.specs.Denotes.{arguments_from, Places, WithPlaces, places, places_in, with_places, body_of}
+use Rattle.br_syntax.specs.Denotes.{skip_of, set_of, unset_of, store_of, stackalloc_of, if_of, while_of, seq_of}
+use Rattle.br_syntax.specs.Denotes.{target_of, call_of, interact_of, form_of, command_of, behind_of, commands}
 use Rattle.br_syntax.proofs.Parts.{made, split}
 use Rattle.br_syntax.proofs.KeptNames.{names_are_kept}
-use Rattle.br_syntax.proofs.ShapedForms.{shaped-skip, shaped-set, shaped-unset, shaped-store, stackalloc_kept, if_kept, while_kept, seq_kept, Within, call_kept, interact_kept}
+use Rattle.br_syntax.proofs.ShapedForms.{shaped-skip, shaped-set, shaped-unset, shaped-store, stackalloc_kept}
+use Rattle.br_syntax.proofs.ShapedForms.{if_kept, while_kept, seq_kept, Within, call_kept, interact_kept}
 
 -- a buffer's size that is read keeps the limit
 size_in_kept : (layer : Tree-F Tree) (n : ℕ) → buffer_size_in layer ≡ Ok n → is_buffer_size n ≡ true
@@ -92,7 +98,8 @@ unset_keeps at (x ∷ []) c e =
     rw m.whole (shaped-unset m.part)
 unset_keeps at (x ∷ y ∷ ys) c e = absurd (cc)
 
-store_keeps : (at : ℕ) (size : Size) (ys : List KeptTree) (c : Cmd) → store_of at size (seen ys) ≡ Ok c → is_shaped_command c ≡ true
+store_keeps : (at : ℕ) (size : Size) (ys : List KeptTree) (c : Cmd) → store_of at size (seen ys) ≡ Ok c
+    → is_shaped_command c ≡ true
 store_keeps at size [] c e = absurd (cc)
 store_keeps at size (x ∷ []) c e = absurd (cc)
 store_keeps at size (x ∷ v ∷ []) c e =
@@ -100,14 +107,17 @@ store_keeps at size (x ∷ v ∷ []) c e =
     rw m.whole (shaped-store size m.part.0 m.part.1)
 store_keeps at size (x ∷ v ∷ y ∷ ys) c e = absurd (cc)
 
-stackalloc_keeps : (at : ℕ) (ys : List KeptTree) (c : Cmd) → stackalloc_of at (seen ys) ≡ Ok c → is_shaped_command c ≡ true
+stackalloc_keeps : (at : ℕ) (ys : List KeptTree) (c : Cmd) → stackalloc_of at (seen ys) ≡ Ok c
+    → is_shaped_command c ≡ true
 stackalloc_keeps at [] c e = absurd (cc)
 stackalloc_keeps at (x ∷ []) c e = absurd (cc)
 stackalloc_keeps at (x ∷ n ∷ body) c e =
-    let m = made (λ p. cmd.Stackalloc p.0.0 p.0.1 p.1) (both (both (name x.0) (buffer_size n.0)) (body_of (seen body))) c e in
+    let m = made (λ p. cmd.Stackalloc p.0.0 p.0.1 p.1)
+    (both (both (name x.0) (buffer_size n.0)) (body_of (seen body))) c e in
     let s = split (both (name x.0) (buffer_size n.0)) (body_of (seen body)) m.part m.is in
     let front = split (name x.0) (buffer_size n.0) m.part.0 s.first in
-    rw m.whole (stackalloc_kept m.part.0.0 m.part.0.1 m.part.1 (size_kept n.0 m.part.0.1 front.second) (body_keeps body m.part.1 s.second))
+    rw m.whole (stackalloc_kept m.part.0.0 m.part.0.1 m.part.1 (size_kept n.0 m.part.0.1 front.second)
+    (body_keeps body m.part.1 s.second))
 
 if_keeps : (at : ℕ) (ys : List KeptTree) (c : Cmd) → if_of at (seen ys) ≡ Ok c → is_shaped_command c ≡ true
 if_keeps at [] c e = absurd (cc)
@@ -121,7 +131,8 @@ if_keeps at (x ∷ a ∷ b ∷ []) c e =
     let front = split (expression x.0) first m.part.0 s.first in
     let kept_a : Keeps (places a.0) = a.1 in
     let kept_b : Keeps (places b.0) = b.1 in
-    rw m.whole (if_kept m.part.0.0 m.part.0.1 m.part.1 (kept_a.behind (codes "then") m.part.0.1 front.second) (kept_b.behind (codes "else") m.part.1 s.second))
+    rw m.whole (if_kept m.part.0.0 m.part.0.1 m.part.1 (kept_a.behind (codes "then") m.part.0.1 front.second)
+    (kept_b.behind (codes "else") m.part.1 s.second))
 if_keeps at (x ∷ a ∷ b ∷ y ∷ ys) c e = absurd (cc)
 
 while_keeps : (at : ℕ) (ys : List KeptTree) (c : Cmd) → while_of at (seen ys) ≡ Ok c → is_shaped_command c ≡ true
@@ -136,7 +147,8 @@ seq_keeps body c e =
     let m = made cmd.Seq (body_of (seen body)) c e in
     rw m.whole (seq_kept m.part (body_keeps body m.part m.is))
 
-target_keeps : (r t : Tree) (arguments : List Tree) (p : (List (List ℕ) × List ℕ) × List Expr) → target_of r t arguments ≡ Ok p → Within p.0.0 p.1
+target_keeps : (r t : Tree) (arguments : List Tree) (p : (List (List ℕ) × List ℕ) × List Expr)
+    → target_of r t arguments ≡ Ok p → Within p.0.0 p.1
 target_keeps r t arguments p e =
     let s = split (both (names r) (name t)) (arguments_from 0 arguments) p e in
     let front = split (names r) (name t) p.0 s.first in
@@ -157,9 +169,11 @@ interact_keeps at (x ∷ []) c e = absurd (cc)
 interact_keeps at (r ∷ t ∷ ys) c e =
     let arguments = map (λ (p : WithPlaces). p.0) (seen ys) in
     let m = made (λ p. cmd.Interact (offset_of t.0) p.0.0 p.0.1 p.1) (target_of r.0 t.0 arguments) c e in
-    rw m.whole (interact_kept (offset_of t.0) m.part.0.0 m.part.0.1 m.part.1 (target_keeps r.0 t.0 arguments m.part m.is))
+    rw m.whole
+    (interact_kept (offset_of t.0) m.part.0.0 m.part.0.1 m.part.1 (target_keeps r.0 t.0 arguments m.part m.is))
 
-form_keeps : (at : ℕ) (first : Option CmdWord) (ys : List KeptTree) (c : Cmd) → form_of at first (seen ys) ≡ Ok c → is_shaped_command c ≡ true
+form_keeps : (at : ℕ) (first : Option CmdWord) (ys : List KeptTree) (c : Cmd) → form_of at first (seen ys) ≡ Ok c
+    → is_shaped_command c ≡ true
 form_keeps at (Some c.Skip) ys d e = skip_keeps at ys d e
 form_keeps at (Some c.Set) ys d e = set_keeps at ys d e
 form_keeps at (Some c.Unset) ys d e = unset_keeps at ys d e
@@ -176,22 +190,27 @@ command_keeps : (at : ℕ) (ys : List KeptTree) (c : Cmd) → command_of at (see
 command_keeps at [] c e = absurd (cc)
 command_keeps at (head ∷ ys) c e = form_keeps at (cmd_word (word_of head.0)) ys c e
 
-guarded : (test : Bool) (s : Shaped (List Cmd)) (f : ShapeFault) (cs : List Cmd) → (if test then s else Err f) ≡ Ok cs → s ≡ Ok cs
+guarded : (test : Bool) (s : Shaped (List Cmd)) (f : ShapeFault) (cs : List Cmd)
+    → (if test then s else Err f) ≡ Ok cs → s ≡ Ok cs
 guarded true s f cs e = e
 guarded false s f cs e = absurd (cc)
 
-behind_keeps : (at : ℕ) (ys : List KeptTree) (word : List ℕ) (cs : List Cmd) → behind_of at (seen ys) word ≡ Ok cs → list_all is_shaped_command cs ≡ true
+behind_keeps : (at : ℕ) (ys : List KeptTree) (word : List ℕ) (cs : List Cmd) → behind_of at (seen ys) word ≡ Ok cs
+    → list_all is_shaped_command cs ≡ true
 behind_keeps at [] word cs e = absurd (cc)
-behind_keeps at (head ∷ ys) word cs e = body_keeps ys cs (guarded (bytes_eq (word_of head.0) word) (body_of (seen ys)) (BadForm at) cs e)
+behind_keeps at (head ∷ ys) word cs e =
+    body_keeps ys cs (guarded (bytes_eq (word_of head.0) word) (body_of (seen ys)) (BadForm at) cs e)
 
-layer_keeps : (y : Tree-F KeptTree) → Keeps (places_in (map-Tree Tree WithPlaces with_places (map-Tree KeptTree Tree tree_of y)))
+layer_keeps : (y : Tree-F KeptTree)
+    → Keeps (places_in (map-Tree Tree WithPlaces with_places (map-Tree KeptTree Tree tree_of y)))
 layer_keeps (Name at text) = record { command = λ c e. absurd (cc); behind = λ word cs e. absurd (cc) }
 layer_keeps (Number at value) = record { command = λ c e. absurd (cc); behind = λ word cs e. absurd (cc) }
 layer_keeps (Items at ys) = record { command = command_keeps at ys; behind = behind_keeps at ys }
 
 places_keep : (t : Tree) → Kept t
 places_keep = ind-Tree Kept (λ x y is.
-    let here = subst (λ (z : Tree-F Tree). Keeps (places_in (map-Tree Tree WithPlaces with_places z))) is (layer_keeps y) in
+    let here = subst (λ (z : Tree-F Tree). Keeps (places_in (map-Tree Tree WithPlaces with_places z))) is
+    (layer_keeps y) in
     subst Keeps (sym (para-roll-Tree Places places_in x)) here)
 
 commands_keep : (ts : List Tree) (cs : List Cmd) → commands ts ≡ Ok cs → list_all is_shaped_command cs ≡ true
@@ -210,9 +229,11 @@ Parts = (List ℕ × List (List ℕ)) × (List (List ℕ) × List Cmd)
 abbrev function_from : ℕ → Parts → Func
 function_from at p = record { at = at; name = p.0.0; args = p.0.1; results = p.1.0; body = p.1.1 }
 
-function_of_keeps : (called arguments results : Tree) (body : List Tree) (f : Func) → function_of called arguments results body ≡ Ok f → is_shaped_function f ≡ true
+function_of_keeps : (called arguments results : Tree) (body : List Tree) (f : Func)
+    → function_of called arguments results body ≡ Ok f → is_shaped_function f ≡ true
 function_of_keeps called arguments results body f e =
-    let m = made (function_from (offset_of called)) (both (both (name called) (names arguments)) (both (names results) (commands body))) f e in
+    let m = made (function_from (offset_of called))
+    (both (both (name called) (names arguments)) (both (names results) (commands body))) f e in
     let s = split (both (name called) (names arguments)) (both (names results) (commands body)) m.part m.is in
     let front = split (name called) (names arguments) m.part.0 s.first in
     let back = split (names results) (commands body) m.part.1 s.second in
@@ -221,18 +242,21 @@ function_of_keeps called arguments results body f e =
     let body_ok = commands_keep body m.part.1.1 back.second in
     rw (m.whole, args_ok, results_ok) body_ok
 
-function_guarded : (test : Bool) (s : Shaped Func) (g : ShapeFault) (f : Func) → (if test then s else Err g) ≡ Ok f → s ≡ Ok f
+function_guarded : (test : Bool) (s : Shaped Func) (g : ShapeFault) (f : Func)
+    → (if test then s else Err g) ≡ Ok f → s ≡ Ok f
 function_guarded true s g f e = e
 function_guarded false s g f e = absurd (cc)
 
-function_list_keeps : (at : ℕ) (items : List Tree) (f : Func) → function_list at items ≡ Ok f → is_shaped_function f ≡ true
+function_list_keeps : (at : ℕ) (items : List Tree) (f : Func) → function_list at items ≡ Ok f
+    → is_shaped_function f ≡ true
 function_list_keeps at [] f e = absurd (cc)
 function_list_keeps at (a ∷ []) f e = absurd (cc)
 function_list_keeps at (a ∷ b ∷ []) f e = absurd (cc)
 function_list_keeps at (a ∷ b ∷ c ∷ []) f e = absurd (cc)
 function_list_keeps at (head ∷ called ∷ arguments ∷ results ∷ body) f e =
     function_of_keeps called arguments results body f
-    (function_guarded (bytes_eq (word_of head) (codes "fn")) (function_of called arguments results body) (BadForm at) f e)
+    (function_guarded (bytes_eq (word_of head) (codes "fn")) (function_of called arguments results body)
+    (BadForm at) f e)
 
 function_in_keeps : (layer : Tree-F Tree) (f : Func) → function_in layer ≡ Ok f → is_shaped_function f ≡ true
 function_in_keeps (Name at text) f e = absurd (cc)

@@ -10,7 +10,8 @@ use Rattle.br_syntax.specs.declared.program.Cmd.TheOpen.{Cmd-F}
 use Rattle.br_syntax.specs.declared.program.Cmd.TheFolds.{map-Cmd, ind-Cmd, fold-roll-Cmd}
 use Rattle.br_syntax.specs.declared.program.Func.{Func}
 use Rattle.br_syntax.specs.Denotes.{functions}
-use Rattle.br_syntax.specs.Laws.{HasMeaning, AtMostOneProgram, AtMostOneFault, NeverBoth, KeepsLimits, FaultIsLowest, NoneStands, UnplacedAgain}
+use Rattle.br_syntax.specs.Laws.{HasMeaning, AtMostOneProgram, AtMostOneFault, NeverBoth}
+use Rattle.br_syntax.specs.Laws.{KeepsLimits, FaultIsLowest, NoneStands, UnplacedAgain}
 use Rattle.br_syntax.specs.Offsets.{unplaced, unplaced_step, unplaced_function}
 use Rattle.br_syntax.specs.Shaped.{Shaped}
 use Rattle.br_syntax.proofs.Kept.{denoted_is_shaped}
@@ -54,25 +55,33 @@ unplaced-unset : (x : List ℕ) → unplaced (cmd.Unset x) ≡ cmd.Unset x
 unplaced-unset x = ap unplaced (sym (cmd.rolls-Unset x)) ∙ fold-roll-Cmd Cmd unplaced_step (Cmd-F.Unset x)
 
 unplaced-store : (size : Size) (a e : Expr) → unplaced (cmd.Store size a e) ≡ cmd.Store size a e
-unplaced-store size a e = ap unplaced (sym (cmd.rolls-Store size a e)) ∙ fold-roll-Cmd Cmd unplaced_step (Cmd-F.Store size a e)
+unplaced-store size a e =
+    ap unplaced (sym (cmd.rolls-Store size a e)) ∙ fold-roll-Cmd Cmd unplaced_step (Cmd-F.Store size a e)
 
-unplaced-stackalloc : (x : List ℕ) (n : ℕ) (body : List Cmd) → unplaced (cmd.Stackalloc x n body) ≡ cmd.Stackalloc x n (map unplaced body)
-unplaced-stackalloc x n body = ap unplaced (sym (cmd.rolls-Stackalloc x n body)) ∙ fold-roll-Cmd Cmd unplaced_step (Cmd-F.Stackalloc x n body)
+unplaced-stackalloc : (x : List ℕ) (n : ℕ) (body : List Cmd)
+    → unplaced (cmd.Stackalloc x n body) ≡ cmd.Stackalloc x n (map unplaced body)
+unplaced-stackalloc x n body =
+    ap unplaced (sym (cmd.rolls-Stackalloc x n body)) ∙ fold-roll-Cmd Cmd unplaced_step (Cmd-F.Stackalloc x n body)
 
 unplaced-if : (e : Expr) (a b : List Cmd) → unplaced (cmd.If e a b) ≡ cmd.If e (map unplaced a) (map unplaced b)
 unplaced-if e a b = ap unplaced (sym (cmd.rolls-If e a b)) ∙ fold-roll-Cmd Cmd unplaced_step (Cmd-F.If e a b)
 
 unplaced-while : (e : Expr) (body : List Cmd) → unplaced (cmd.While e body) ≡ cmd.While e (map unplaced body)
-unplaced-while e body = ap unplaced (sym (cmd.rolls-While e body)) ∙ fold-roll-Cmd Cmd unplaced_step (Cmd-F.While e body)
+unplaced-while e body =
+    ap unplaced (sym (cmd.rolls-While e body)) ∙ fold-roll-Cmd Cmd unplaced_step (Cmd-F.While e body)
 
 unplaced-seq : (body : List Cmd) → unplaced (cmd.Seq body) ≡ cmd.Seq (map unplaced body)
 unplaced-seq body = ap unplaced (sym (cmd.rolls-Seq body)) ∙ fold-roll-Cmd Cmd unplaced_step (Cmd-F.Seq body)
 
-unplaced-call : (at : ℕ) (outs : List (List ℕ)) (x : List ℕ) (args : List Expr) → unplaced (cmd.Call at outs x args) ≡ cmd.Call 0 outs x args
-unplaced-call at outs x args = ap unplaced (sym (cmd.rolls-Call at outs x args)) ∙ fold-roll-Cmd Cmd unplaced_step (Cmd-F.Call at outs x args)
+unplaced-call : (at : ℕ) (outs : List (List ℕ)) (x : List ℕ) (args : List Expr)
+    → unplaced (cmd.Call at outs x args) ≡ cmd.Call 0 outs x args
+unplaced-call at outs x args =
+    ap unplaced (sym (cmd.rolls-Call at outs x args)) ∙ fold-roll-Cmd Cmd unplaced_step (Cmd-F.Call at outs x args)
 
-unplaced-interact : (at : ℕ) (outs : List (List ℕ)) (x : List ℕ) (args : List Expr) → unplaced (cmd.Interact at outs x args) ≡ cmd.Interact 0 outs x args
-unplaced-interact at outs x args = ap unplaced (sym (cmd.rolls-Interact at outs x args)) ∙ fold-roll-Cmd Cmd unplaced_step (Cmd-F.Interact at outs x args)
+unplaced-interact : (at : ℕ) (outs : List (List ℕ)) (x : List ℕ) (args : List Expr)
+    → unplaced (cmd.Interact at outs x args) ≡ cmd.Interact 0 outs x args
+unplaced-interact at outs x args = ap unplaced (sym (cmd.rolls-Interact at outs x args))
+    ∙ fold-roll-Cmd Cmd unplaced_step (Cmd-F.Interact at outs x args)
 
 -- offsets that are left out twice are left out once
 abbrev Twice : Cmd → Type 0
@@ -95,20 +104,26 @@ layer_twice (Cmd-F.Unset x) = rw (cmd.rolls-Unset x, unplaced-unset x) (unplaced
 layer_twice (Cmd-F.Store size a e) = rw (cmd.rolls-Store size a e, unplaced-store size a e) (unplaced-store size a e)
 layer_twice (Cmd-F.Stackalloc x n ys) =
     let body = map command_in ys in
-    rw (cmd.rolls-Stackalloc x n body, unplaced-stackalloc x n body) (unplaced-stackalloc x n (map unplaced body) ∙ ap (cmd.Stackalloc x n) (all_twice ys))
+    rw (cmd.rolls-Stackalloc x n body, unplaced-stackalloc x n body)
+    (unplaced-stackalloc x n (map unplaced body) ∙ ap (cmd.Stackalloc x n) (all_twice ys))
 layer_twice (Cmd-F.If e ys zs) =
     let a = map command_in ys in
     let b = map command_in zs in
     rw (cmd.rolls-If e a b, unplaced-if e a b)
-    (unplaced-if e (map unplaced a) (map unplaced b) ∙ ap (λ (cs : List Cmd). cmd.If e cs (map unplaced (map unplaced b))) (all_twice ys) ∙ ap (cmd.If e (map unplaced a)) (all_twice zs))
+    (unplaced-if e (map unplaced a) (map unplaced b)
+    ∙ ap (λ (cs : List Cmd). cmd.If e cs (map unplaced (map unplaced b))) (all_twice ys)
+    ∙ ap (cmd.If e (map unplaced a)) (all_twice zs))
 layer_twice (Cmd-F.While e ys) =
     let body = map command_in ys in
-    rw (cmd.rolls-While e body, unplaced-while e body) (unplaced-while e (map unplaced body) ∙ ap (cmd.While e) (all_twice ys))
+    rw (cmd.rolls-While e body, unplaced-while e body)
+    (unplaced-while e (map unplaced body) ∙ ap (cmd.While e) (all_twice ys))
 layer_twice (Cmd-F.Seq ys) =
     let body = map command_in ys in
     rw (cmd.rolls-Seq body, unplaced-seq body) (unplaced-seq (map unplaced body) ∙ ap cmd.Seq (all_twice ys))
-layer_twice (Cmd-F.Call at outs x args) = rw (cmd.rolls-Call at outs x args, unplaced-call at outs x args) (unplaced-call 0 outs x args)
-layer_twice (Cmd-F.Interact at outs x args) = rw (cmd.rolls-Interact at outs x args, unplaced-interact at outs x args) (unplaced-interact 0 outs x args)
+layer_twice (Cmd-F.Call at outs x args) =
+    rw (cmd.rolls-Call at outs x args, unplaced-call at outs x args) (unplaced-call 0 outs x args)
+layer_twice (Cmd-F.Interact at outs x args) =
+    rw (cmd.rolls-Interact at outs x args, unplaced-interact at outs x args) (unplaced-interact 0 outs x args)
 
 twice : (c : Cmd) → Twice c
 twice = ind-Cmd Twice (λ x y is. subst (λ (z : Cmd-F Cmd). Twice (roll-Cmd z)) is (layer_twice y))

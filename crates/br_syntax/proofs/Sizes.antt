@@ -13,5 +13,6 @@ most-drop-le size (suc n) [] = omega arith
 most-drop-le size (suc n) (x ∷ xs) = omega (arith, most-drop-le size n xs)
 
 -- the elements from one place up to another
-pub most_part_le : {X : Type 0} (size : X → ℕ) (from to : ℕ) (xs : List X) → most size (take (to - from) (drop from xs)) ≤ most size xs
+pub most_part_le : {X : Type 0} (size : X → ℕ) (from to : ℕ) (xs : List X)
+    → most size (take (to - from) (drop from xs)) ≤ most size xs
 most_part_le size from to xs = omega (arith, most-take-le size (to - from) (drop from xs), most-drop-le size from xs)

@@ -14,13 +14,20 @@ use Rattle.br_syntax.specs.Offsets.{unplaced_function, unplaced, unplaced_step}
 use Rattle.br_syntax.proofs.Written.{map-push, all_push_tree}
 
 pub unplaced-seq : (c : Cmd) (body : List Cmd) → c ≡ cmd.Seq body → cmd.Seq (map unplaced body) ≡ unplaced c
-unplaced-seq c body is = sym (ap unplaced (is ∙ sym (cmd.rolls-Seq body)) ∙ fold-roll-Cmd Cmd unplaced_step (Cmd-F.Seq body))
+unplaced-seq c body is =
+    sym (ap unplaced (is ∙ sym (cmd.rolls-Seq body)) ∙ fold-roll-Cmd Cmd unplaced_step (Cmd-F.Seq body))
 
-pub unplaced-call : (c : Cmd) (at : ℕ) (results : List (List ℕ)) (callee : List ℕ) (arguments : List Expr) → c ≡ cmd.Call at results callee arguments → cmd.Call 0 results callee arguments ≡ unplaced c
-unplaced-call c at results callee arguments is = sym (ap unplaced (is ∙ sym (cmd.rolls-Call at results callee arguments)) ∙ fold-roll-Cmd Cmd unplaced_step (Cmd-F.Call at results callee arguments))
+pub unplaced-call : (c : Cmd) (at : ℕ) (results : List (List ℕ)) (callee : List ℕ) (arguments : List Expr)
+    → c ≡ cmd.Call at results callee arguments → cmd.Call 0 results callee arguments ≡ unplaced c
+unplaced-call c at results callee arguments is =
+    sym (ap unplaced (is ∙ sym (cmd.rolls-Call at results callee arguments))
+    ∙ fold-roll-Cmd Cmd unplaced_step (Cmd-F.Call at results callee arguments))
 
-pub unplaced-interact : (c : Cmd) (at : ℕ) (results : List (List ℕ)) (action : List ℕ) (arguments : List Expr) → c ≡ cmd.Interact at results action arguments → cmd.Interact 0 results action arguments ≡ unplaced c
-unplaced-interact c at results action arguments is = sym (ap unplaced (is ∙ sym (cmd.rolls-Interact at results action arguments)) ∙ fold-roll-Cmd Cmd unplaced_step (Cmd-F.Interact at results action arguments))
+pub unplaced-interact : (c : Cmd) (at : ℕ) (results : List (List ℕ)) (action : List ℕ) (arguments : List Expr)
+    → c ≡ cmd.Interact at results action arguments → cmd.Interact 0 results action arguments ≡ unplaced c
+unplaced-interact c at results action arguments is =
+    sym (ap unplaced (is ∙ sym (cmd.rolls-Interact at results action arguments))
+    ∙ fold-roll-Cmd Cmd unplaced_step (Cmd-F.Interact at results action arguments))
 
 -- commands as the trees of a list, one by one
 commands-map : (ts : List Tree) → commands ts ≡ all (map command ts)
@@ -31,16 +38,23 @@ commands-map ts = ap all (map-map ts)
     map-map (t ∷ ts) = ap (λ more. command t ∷ more) (map-map ts)
 
 -- one command more
-pub command_push : (trees : List Tree) (cs : List Cmd) (i : ℕ) (t : Tree) (c : Cmd) → i < length cs → c ≡ get_or cs i c → command t ≡ Ok (unplaced c) → commands trees ≡ Ok (map unplaced (take i cs)) → commands (trees ++ t ∷ []) ≡ Ok (map unplaced (take (i + 1) cs))
+pub command_push : (trees : List Tree) (cs : List Cmd) (i : ℕ) (t : Tree) (c : Cmd)
+    → i < length cs → c ≡ get_or cs i c → command t ≡ Ok (unplaced c) → commands trees ≡ Ok (map unplaced (take i cs))
+    → commands (trees ++ t ∷ []) ≡ Ok (map unplaced (take (i + 1) cs))
 command_push trees cs i t c inside is here done =
-    let more : take (i + 1) cs ≡ take i cs ++ c ∷ [] = take_more cs i c inside ∙ ap (λ (m : Cmd). take i cs ++ m ∷ []) (sym is) in
+    let more : take (i + 1) cs ≡ take i cs ++ c ∷ [] = take_more cs i c inside
+    ∙ ap (λ (m : Cmd). take i cs ++ m ∷ []) (sym is) in
     commands-map (trees ++ t ∷ [])
     ∙ all_push_tree command trees (map unplaced (take i cs)) t (unplaced c) (sym (commands-map trees) ∙ done) here
     ∙ ap Ok (sym (map-push unplaced (take i cs) c) ∙ ap (λ (xs : List Cmd). map unplaced xs) (sym more))
 
 -- one function more
-pub function_push : (trees : List Tree) (fs : List Func) (i : ℕ) (t : Tree) (f : Func) → i < length fs → f ≡ get_or fs i f → function t ≡ Ok (unplaced_function f) → functions trees ≡ Ok (map unplaced_function (take i fs)) → functions (trees ++ t ∷ []) ≡ Ok (map unplaced_function (take (i + 1) fs))
+pub function_push : (trees : List Tree) (fs : List Func) (i : ℕ) (t : Tree) (f : Func) → i < length fs → f
+    ≡ get_or fs i f → function t ≡ Ok (unplaced_function f) → functions trees ≡ Ok (map unplaced_function (take i fs))
+    → functions (trees ++ t ∷ []) ≡ Ok (map unplaced_function (take (i + 1) fs))
 function_push trees fs i t f inside is here done =
-    let more : take (i + 1) fs ≡ take i fs ++ f ∷ [] = take_more fs i f inside ∙ ap (λ (m : Func). take i fs ++ m ∷ []) (sym is) in
+    let more : take (i + 1) fs ≡ take i fs ++ f ∷ [] = take_more fs i f inside
+    ∙ ap (λ (m : Func). take i fs ++ m ∷ []) (sym is) in
     all_push_tree function trees (map unplaced_function (take i fs)) t (unplaced_function f) done here
-    ∙ ap Ok (sym (map-push unplaced_function (take i fs) f) ∙ ap (λ (xs : List Func). map unplaced_function xs) (sym more))
+    ∙ ap Ok
+    (sym (map-push unplaced_function (take i fs) f) ∙ ap (λ (xs : List Func). map unplaced_function xs) (sym more))

@@ -1,5 +1,6 @@
 -- What trees stand for, by the kind of tree that their place asks for.
-use Rattle.std.specs.Prelude.{◌≡◌, ℕ, ◌+◌, List, [], ◌∷◌, ◌++◌, Option, Some, None, Ok, Err, length, map, nat_le, ◌==◌, if◌then◌else◌, codes}
+use Rattle.std.specs.Prelude.{◌≡◌, ℕ, ◌+◌, List, [], ◌∷◌, ◌++◌, Option, Some, None, Ok}
+use Rattle.std.specs.Prelude.{Err, length, map, nat_le, ◌==◌, if◌then◌else◌, codes}
 use Rattle.std.specs.List.{list_any}
 use Rattle.std.specs.Str.{bytes_eq}
 use Rattle.br_words.specs.declared.operation.BinOp.{BinOp}
@@ -9,7 +10,8 @@ use Rattle.br_sexpr.specs.declared.tree.Tree.TheOpen.{Tree-F}
 use Rattle.br_sexpr.specs.declared.tree.Tree.TheOpen.Tree-F.{Name, Number, List as Items}
 use Rattle.br_sexpr.specs.declared.tree.Tree.TheFolds.{para-Tree}
 use Rattle.br_syntax.specs.declared.faults.ShapeFault.{ShapeFault}
-use Rattle.br_syntax.specs.declared.faults.ShapeFault.TheVariants.{BadForm, BadSize, BadByteValue, TooMany, Repeated}
+use Rattle.br_syntax.specs.declared.faults.ShapeFault.TheVariants.{BadForm, BadSize, BadByteValue}
+use Rattle.br_syntax.specs.declared.faults.ShapeFault.TheVariants.{TooMany, Repeated}
 use Rattle.br_syntax.specs.declared.program.Expr.{Expr}
 use Rattle.br_syntax.specs.declared.program.Expr.TheVariants as expr
 use Rattle.br_syntax.specs.declared.program.Cmd.{Cmd}
@@ -177,7 +179,8 @@ with_expression t = (t, expression t)
 
 -- an argument of a call or an interaction, after so many others
 abbrev pub argument_at : ℕ → Tree → Shaped Expr
-argument_at i t = if i == 8 then Err (lowest (TooMany (offset_of t)) (expression t)) else expression t
+argument_at i t =
+    if i == 8 then Err (lowest (TooMany (offset_of t)) (expression t)) else expression t
 
 -- arguments, after so many others
 abbrev pub arguments_from : ℕ → List Tree → Shaped (List Expr)
@@ -204,7 +207,8 @@ skip_of at (x ∷ more) = Err (BadForm at)
 
 -- (set NAME EXPR)
 abbrev pub set_of : ℕ → List WithPlaces → Shaped Cmd
-set_of at (variable ∷ value ∷ []) = (λ p. cmd.Set p.0 p.1) <$> both (name variable.0) (expression value.0)
+set_of at (variable ∷ value ∷ []) =
+    (λ p. cmd.Set p.0 p.1) <$> both (name variable.0) (expression value.0)
 set_of at _ = Err (BadForm at)
 
 -- (unset NAME)
@@ -221,14 +225,16 @@ store_of at size _ = Err (BadForm at)
 -- (stackalloc NAME SIZE COMMAND..)
 abbrev pub stackalloc_of : ℕ → List WithPlaces → Shaped Cmd
 stackalloc_of at (variable ∷ size ∷ body) =
-    (λ p. cmd.Stackalloc p.0.0 p.0.1 p.1) <$> both (both (name variable.0) (buffer_size size.0)) (body_of body)
+    (λ p. cmd.Stackalloc p.0.0 p.0.1 p.1) <$> both (both (name variable.0) (buffer_size size.0))
+    (body_of body)
 stackalloc_of at _ = Err (BadForm at)
 
 -- (if EXPR THEN ELSE)
 abbrev pub if_of : ℕ → List WithPlaces → Shaped Cmd
 if_of at (test ∷ then_part ∷ else_part ∷ []) =
     (λ p. cmd.If p.0.0 p.0.1 p.1)
-    <$> both (both (expression test.0) (then_part.1.behind (codes "then"))) (else_part.1.behind (codes "else"))
+    <$> both (both (expression test.0) (then_part.1.behind (codes "then")))
+    (else_part.1.behind (codes "else"))
 if_of at _ = Err (BadForm at)
 
 -- (while EXPR COMMAND..)
@@ -242,7 +248,8 @@ seq_of body = cmd.Seq <$> body_of body
 
 -- the results, the name and the arguments of a call or an interaction
 abbrev pub target_of : Tree → Tree → List Tree → Shaped ((List (List ℕ) × List ℕ) × List Expr)
-target_of results called arguments = both (both (names results) (name called)) (arguments_from 0 arguments)
+target_of results called arguments =
+    both (both (names results) (name called)) (arguments_from 0 arguments)
 
 -- (call NAMES NAME EXPR..)
 abbrev pub call_of : ℕ → List WithPlaces → Shaped Cmd
@@ -280,12 +287,14 @@ command_of at (head ∷ parts) = form_of at (cmd_word (word_of head.0)) parts
 -- a list of these items at a place that asks for commands after this word
 abbrev pub behind_of : ℕ → List WithPlaces → List ℕ → Shaped (List Cmd)
 behind_of at [] word = Err (BadForm at)
-behind_of at (head ∷ body) word = if bytes_eq (word_of head.0) word then body_of body else Err (BadForm at)
+behind_of at (head ∷ body) word =
+    if bytes_eq (word_of head.0) word then body_of body else Err (BadForm at)
 
 -- one layer of a tree at those places
 abbrev pub places_in : Tree-F WithPlaces → Places
 places_in (Name at text) = record { command = Err (BadForm at); behind = λ word. Err (BadForm at) }
-places_in (Number at value) = record { command = Err (BadForm at); behind = λ word. Err (BadForm at) }
+places_in (Number at value) =
+    record { command = Err (BadForm at); behind = λ word. Err (BadForm at) }
 places_in (Items at items) = record { command = command_of at items; behind = behind_of at items }
 
 -- what a tree stands for at those places
@@ -307,13 +316,15 @@ commands trees = body_of (map with_places trees)
 -- the parts of a function
 abbrev pub function_of : Tree → Tree → Tree → List Tree → Shaped Func
 function_of called arguments results body =
-    (λ p. record { at = offset_of called; name = p.0.0; args = p.0.1; results = p.1.0; body = p.1.1 })
+    (λ p.
+    record { at = offset_of called; name = p.0.0; args = p.0.1; results = p.1.0; body = p.1.1 })
     <$> both (both (name called) (names arguments)) (both (names results) (commands body))
 
 -- (fn NAME NAMES NAMES COMMAND..)
 abbrev pub function_list : ℕ → List Tree → Shaped Func
 function_list at (head ∷ called ∷ arguments ∷ results ∷ body) =
-    if bytes_eq (word_of head) (codes "fn") then function_of called arguments results body else Err (BadForm at)
+    if bytes_eq (word_of head) (codes "fn") then function_of called arguments results body
+    else Err (BadForm at)
 function_list at _ = Err (BadForm at)
 
 -- one layer of a tree at a place that asks for a function
@@ -330,7 +341,8 @@ function t = function_in (out-Tree t)
 abbrev pub functions : List Tree → Shaped (List Func)
 functions trees = all (map function trees)
 
--- the trees are functions throughout, with no fault of shape, and these are they in order with their offsets
+-- the trees are functions throughout, with no fault of shape, and
+-- these are they in order with their offsets
 abbrev pub Denotes : List Tree → List Func → Type 0
 Denotes trees funcs = functions trees ≡ Ok funcs
 

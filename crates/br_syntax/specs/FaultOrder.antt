@@ -3,7 +3,8 @@ use Rattle.std.specs.Prelude.{ℕ, ◌+◌, ◌*◌, ◌≤◌, List}
 use Rattle.std.specs.List.{All, Contains}
 use Rattle.br_base.specs.Faults.{lower_by}
 use Rattle.br_syntax.specs.declared.faults.ShapeFault.{ShapeFault}
-use Rattle.br_syntax.specs.declared.faults.ShapeFault.TheVariants.{BadForm, BadSize, BadByteValue, TooMany, Repeated}
+use Rattle.br_syntax.specs.declared.faults.ShapeFault.TheVariants.{BadForm, BadSize, BadByteValue}
+use Rattle.br_syntax.specs.declared.faults.ShapeFault.TheVariants.{TooMany, Repeated}
 
 -- a number that orders faults by offset, and at one offset as they are listed here
 abbrev pub place : ShapeFault → ℕ

@@ -1,5 +1,6 @@
 -- All faults of shape that stand in trees, by the kinds of tree that their places ask for.
-use Rattle.std.specs.Prelude.{ℕ, ◌+◌, List, [], ◌∷◌, ◌++◌, Option, Some, None, length, map, nat_le, ◌==◌, if◌then◌else◌, codes}
+use Rattle.std.specs.Prelude.{ℕ, ◌+◌, List, [], ◌∷◌, ◌++◌, Option, Some, None}
+use Rattle.std.specs.Prelude.{length, map, nat_le, ◌==◌, if◌then◌else◌, codes}
 use Rattle.std.specs.List.{flat_map, list_any}
 use Rattle.std.specs.Str.{bytes_eq}
 use Rattle.br_sexpr.specs.declared.tree.Tree.{Tree, out-Tree}
@@ -7,7 +8,8 @@ use Rattle.br_sexpr.specs.declared.tree.Tree.TheOpen.{Tree-F}
 use Rattle.br_sexpr.specs.declared.tree.Tree.TheOpen.Tree-F.{Name, Number, List as Items}
 use Rattle.br_sexpr.specs.declared.tree.Tree.TheFolds.{para-Tree}
 use Rattle.br_syntax.specs.declared.faults.ShapeFault.{ShapeFault}
-use Rattle.br_syntax.specs.declared.faults.ShapeFault.TheVariants.{BadForm, BadSize, BadByteValue, TooMany, Repeated}
+use Rattle.br_syntax.specs.declared.faults.ShapeFault.TheVariants.{BadForm, BadSize, BadByteValue}
+use Rattle.br_syntax.specs.declared.faults.ShapeFault.TheVariants.{TooMany, Repeated}
 use Rattle.br_syntax.specs.declared.word.ExprWord.{ExprWord}
 use Rattle.br_syntax.specs.declared.word.ExprWord.TheVariants as e
 use Rattle.br_syntax.specs.declared.word.CmdWord.{CmdWord}
@@ -37,7 +39,8 @@ in_name_after earlier (Items at items) = BadForm at ∷ []
 -- items of a list of names, after these items
 abbrev pub in_names_after : List Tree → List Tree → Faults
 in_names_after earlier [] = []
-in_names_after earlier (t ∷ ts) = in_name_after earlier (out-Tree t) ++ in_names_after (earlier ++ t ∷ []) ts
+in_names_after earlier (t ∷ ts) =
+    in_name_after earlier (out-Tree t) ++ in_names_after (earlier ++ t ∷ []) ts
 
 -- a place that asks for a list of names
 abbrev pub in_names : Tree-F Tree → Faults
@@ -114,7 +117,8 @@ in_expression = para-Tree Faults in_expression_layer
 abbrev pub in_arguments_from : ℕ → List Tree → Faults
 in_arguments_from i [] = []
 in_arguments_from i (t ∷ ts) =
-    ((if i == 8 then TooMany (offset_of t) ∷ [] else []) ++ in_expression t) ++ in_arguments_from (i + 1) ts
+    ((if i == 8 then TooMany (offset_of t) ∷ [] else []) ++ in_expression t)
+    ++ in_arguments_from (i + 1) ts
 
 -- the faults in a tree where a command is asked for, and where commands after a word are
 pub record FaultPlaces : Type 0 where
@@ -138,9 +142,11 @@ in_target results called arguments =
 -- a list that begins with this word and has these parts, at a place that asks for a command
 abbrev pub in_form : ℕ → Option CmdWord → List WithFaultPlaces → Faults
 in_form at (Some c.Skip) [] = []
-in_form at (Some c.Set) (variable ∷ value ∷ []) = in_name (out-Tree variable.0) ++ in_expression value.0
+in_form at (Some c.Set) (variable ∷ value ∷ []) =
+    in_name (out-Tree variable.0) ++ in_expression value.0
 in_form at (Some c.Unset) (variable ∷ []) = in_name (out-Tree variable.0)
-in_form at (Some (c.Store size)) (address ∷ value ∷ []) = in_expression address.0 ++ in_expression value.0
+in_form at (Some (c.Store size)) (address ∷ value ∷ []) =
+    in_expression address.0 ++ in_expression value.0
 in_form at (Some c.Stackalloc) (variable ∷ size ∷ body) =
     (in_name (out-Tree variable.0) ++ in_buffer_size (out-Tree size.0)) ++ in_body body
 in_form at (Some c.If) (test ∷ then_part ∷ else_part ∷ []) =
@@ -159,13 +165,17 @@ in_command_items at (head ∷ parts) = in_form at (cmd_word (word_of head.0)) pa
 -- a list of these items at a place that asks for commands after this word
 abbrev pub in_behind_items : ℕ → List WithFaultPlaces → List ℕ → Faults
 in_behind_items at [] word = BadForm at ∷ []
-in_behind_items at (head ∷ body) word = if bytes_eq (word_of head.0) word then in_body body else BadForm at ∷ []
+in_behind_items at (head ∷ body) word =
+    if bytes_eq (word_of head.0) word then in_body body else BadForm at ∷ []
 
 -- one layer of a tree at those places
 abbrev pub in_places_layer : Tree-F WithFaultPlaces → FaultPlaces
-in_places_layer (Name at text) = record { command = BadForm at ∷ []; behind = λ word. BadForm at ∷ [] }
-in_places_layer (Number at value) = record { command = BadForm at ∷ []; behind = λ word. BadForm at ∷ [] }
-in_places_layer (Items at items) = record { command = in_command_items at items; behind = in_behind_items at items }
+in_places_layer (Name at text) =
+    record { command = BadForm at ∷ []; behind = λ word. BadForm at ∷ [] }
+in_places_layer (Number at value) =
+    record { command = BadForm at ∷ []; behind = λ word. BadForm at ∷ [] }
+in_places_layer (Items at items) =
+    record { command = in_command_items at items; behind = in_behind_items at items }
 
 -- the faults in a tree at those places
 abbrev pub in_places : Tree → FaultPlaces
@@ -179,7 +189,8 @@ in_commands trees = flat_map (λ t. (in_places t).command) trees
 abbrev pub in_function_items : ℕ → List Tree → Faults
 in_function_items at (head ∷ called ∷ arguments ∷ results ∷ body) =
     if bytes_eq (word_of head) (codes "fn")
-    then (in_name (out-Tree called) ++ in_names (out-Tree arguments)) ++ (in_names (out-Tree results) ++ in_commands body)
+    then (in_name (out-Tree called) ++ in_names (out-Tree arguments))
+    ++ (in_names (out-Tree results) ++ in_commands body)
     else BadForm at ∷ []
 in_function_items at _ = BadForm at ∷ []
 

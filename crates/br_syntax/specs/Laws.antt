@@ -11,19 +11,23 @@ use Rattle.br_syntax.specs.Shape.{IsShaped}
 
 -- there is a program or a fault
 abbrev pub HasMeaning : List Tree → Type 0
-HasMeaning trees = ((funcs : List Func) × Denotes trees funcs) ⊎ ((fault : ShapeFault) × IsShapeFault trees fault)
+HasMeaning trees =
+    ((funcs : List Func) × Denotes trees funcs) ⊎ ((fault : ShapeFault) × IsShapeFault trees fault)
 
 -- no two programs
 abbrev pub AtMostOneProgram : List Tree → Type 0
-AtMostOneProgram trees = (one other : List Func) → Denotes trees one → Denotes trees other → one ≡ other
+AtMostOneProgram trees =
+    (one other : List Func) → Denotes trees one → Denotes trees other → one ≡ other
 
 -- no two faults
 abbrev pub AtMostOneFault : List Tree → Type 0
-AtMostOneFault trees = (one other : ShapeFault) → IsShapeFault trees one → IsShapeFault trees other → one ≡ other
+AtMostOneFault trees =
+    (one other : ShapeFault) → IsShapeFault trees one → IsShapeFault trees other → one ≡ other
 
 -- no program beside a fault
 abbrev pub NeverBoth : List Tree → Type 0
-NeverBoth trees = (funcs : List Func) (fault : ShapeFault) → Denotes trees funcs → IsShapeFault trees fault → ⊥
+NeverBoth trees = (funcs : List Func) (fault : ShapeFault) → Denotes trees funcs
+    → IsShapeFault trees fault → ⊥
 
 -- what trees stand for keeps the limits on names, arguments and buffers
 abbrev pub KeepsLimits : List Tree → Type 0
@@ -31,7 +35,8 @@ KeepsLimits trees = (funcs : List Func) → Denotes trees funcs → IsShaped fun
 
 -- the fault of the trees is the lowest of all faults that stand in them
 abbrev pub FaultIsLowest : List Tree → Type 0
-FaultIsLowest trees = (fault : ShapeFault) → IsShapeFault trees fault → IsLowest place (all_faults trees) fault
+FaultIsLowest trees =
+    (fault : ShapeFault) → IsShapeFault trees fault → IsLowest place (all_faults trees) fault
 
 -- no fault stands in trees that stand for a program
 abbrev pub NoneStands : List Tree → Type 0

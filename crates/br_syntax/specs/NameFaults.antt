@@ -1,6 +1,7 @@
 -- Which names of a program are at fault. A name means the first function that has it.
-use Rattle.std.specs.Prelude.{◌≡◌, ℕ, ◌+◌, ◌*◌, ◌≤◌, List, [], ◌∷◌, ◌++◌, Option, Some, None, is_some, length, map, ◌==◌, if◌then◌else◌, codes}
-use Rattle.std.specs.List.{flat_map, All, Contains}
+use Rattle.std.specs.Prelude.{◌≡◌, ℕ, List, [], ◌∷◌, ◌++◌, Option, Some, None}
+use Rattle.std.specs.Prelude.{is_some, length, map, ◌==◌, if◌then◌else◌, codes}
+use Rattle.std.specs.List.{flat_map}
 use Rattle.std.specs.Str.{bytes_eq}
 use Rattle.br_syntax.specs.declared.program.Cmd.{Cmd}
 use Rattle.br_syntax.specs.declared.program.Cmd.TheOpen.{Cmd-F}
@@ -8,14 +9,15 @@ use Rattle.br_syntax.specs.declared.program.Cmd.TheFolds.{fold-Cmd}
 use Rattle.br_syntax.specs.declared.program.Func.{Func}
 use Rattle.br_syntax.specs.Functions.{function_named}
 
--- Faults of names at an offset, over the five that a crate tells apart: a function has the name of an
--- earlier one; no function has the callee's name; another number of arguments; another number of
--- results; an action of no known name.
+-- Faults of names at an offset, over the five that a crate tells apart: a function has the name of
+-- an earlier one; no function has the callee's name; another number of arguments; another number
+-- of results; an action of no known name.
 module _ (F : Type 0) (duplicate unknown arguments results action : ℕ → F) where
   -- a callee or an action of some numbers of arguments and results is given these numbers
   abbrev pub count_faults : ℕ → ℕ → ℕ → ℕ → ℕ → List F
   count_faults at args outs given_args given_outs =
-      (if given_args == args then [] else arguments at ∷ []) ++ (if given_outs == outs then [] else results at ∷ [])
+      (if given_args == args then [] else arguments at ∷ [])
+      ++ (if given_outs == outs then [] else results at ∷ [])
 
   -- a call of such a function
   abbrev pub call_faults : ℕ → ℕ → ℕ → Option Func → List F
@@ -46,7 +48,8 @@ module _ (F : Type 0) (duplicate unknown arguments results action : ℕ → F) w
   faults_step fs (Cmd-F.Seq body) = joined_faults body
   faults_step fs (Cmd-F.Call at outs callee args) =
       call_faults at (length args) (length outs) (function_named fs callee)
-  faults_step fs (Cmd-F.Interact at outs name args) = action_faults at (length args) (length outs) name
+  faults_step fs (Cmd-F.Interact at outs name args) =
+      action_faults at (length args) (length outs) name
 
   abbrev pub command_faults : List Func → Cmd → List F
   command_faults fs = fold-Cmd (List F) (faults_step fs)
@@ -63,7 +66,8 @@ module _ (F : Type 0) (duplicate unknown arguments results action : ℕ → F) w
 
   -- all faults of names in a program
   abbrev pub faults_of_names : List Func → List F
-  faults_of_names fs = duplicates_after [] fs ++ joined_faults (map (λ f. commands_faults fs f.body) fs)
+  faults_of_names fs =
+      duplicates_after [] fs ++ joined_faults (map (λ f. commands_faults fs f.body) fs)
 
 -- a fault of names, at an offset
 pub data NameFault : Type 0 where
@@ -73,22 +77,10 @@ pub data NameFault : Type 0 where
   WrongResults : ℕ → NameFault
   UnknownAction : ℕ → NameFault
 
--- a number that orders them by offset, and at one offset as they are listed here
-abbrev pub name_place : NameFault → ℕ
-name_place (DuplicateFunction at) = 5 * at
-name_place (UnknownFunction at) = 5 * at + 1
-name_place (WrongArguments at) = 5 * at + 2
-name_place (WrongResults at) = 5 * at + 3
-name_place (UnknownAction at) = 5 * at + 4
-
 -- all faults of names in a program
 abbrev pub name_faults : List Func → List NameFault
-name_faults = faults_of_names NameFault DuplicateFunction UnknownFunction WrongArguments WrongResults UnknownAction
-
--- the lowest fault of names in a program
-pub record IsNameFault (funcs : List Func) (fault : NameFault) : Type 0 where
-  pub stands : Contains (name_faults funcs) fault
-  pub lowest : All (λ other. name_place fault ≤ name_place other) (name_faults funcs)
+name_faults = faults_of_names NameFault DuplicateFunction UnknownFunction WrongArguments
+    WrongResults UnknownAction
 
 -- no name of the program is at fault
 abbrev pub HasNoNameFault : List Func → Type 0

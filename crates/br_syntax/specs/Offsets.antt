@@ -8,7 +8,8 @@ use Rattle.br_sexpr.specs.declared.tree.Tree.TheFolds.{fold-Tree}
 use Rattle.br_syntax.specs.declared.program.Cmd.{Cmd}
 use Rattle.br_syntax.specs.declared.program.Cmd.TheVariants as cmd
 use Rattle.br_syntax.specs.declared.program.Cmd.TheOpen.{Cmd-F}
-use Rattle.br_syntax.specs.declared.program.Cmd.TheOpen.Cmd-F.{Skip, Set, Unset, Store, Stackalloc, If, While, Seq, Call, Interact}
+use Rattle.br_syntax.specs.declared.program.Cmd.TheOpen.Cmd-F.{Skip, Set, Unset, Store, Stackalloc}
+use Rattle.br_syntax.specs.declared.program.Cmd.TheOpen.Cmd-F.{If, While, Seq, Call, Interact}
 use Rattle.br_syntax.specs.declared.program.Cmd.TheFolds.{fold-Cmd}
 use Rattle.br_syntax.specs.declared.program.Func.{Func}
 

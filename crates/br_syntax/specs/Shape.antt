@@ -1,11 +1,13 @@
 -- What the parts of a program have to keep so that a source text can say them.
-use Rattle.std.specs.Prelude.{ℕ, ◌%◌, Bool, true, not, ◌&&◌, List, [], ◌∷◌, length, IsTrue, nat_le, ◌==◌}
+use Rattle.std.specs.Prelude.{ℕ, ◌%◌, Bool, true, not, ◌&&◌, List}
+use Rattle.std.specs.Prelude.{[], ◌∷◌, length, IsTrue, nat_le, ◌==◌}
 use Rattle.std.specs.List.{list_all, list_any}
 use Rattle.std.specs.Str.{bytes_eq}
 use Rattle.br_syntax.specs.declared.program.Expr.{Expr}
 use Rattle.br_syntax.specs.declared.program.Cmd.{Cmd}
 use Rattle.br_syntax.specs.declared.program.Cmd.TheOpen.{Cmd-F}
-use Rattle.br_syntax.specs.declared.program.Cmd.TheOpen.Cmd-F.{Skip, Set, Unset, Store, Stackalloc, If, While, Seq, Call, Interact}
+use Rattle.br_syntax.specs.declared.program.Cmd.TheOpen.Cmd-F.{Skip, Set, Unset, Store, Stackalloc}
+use Rattle.br_syntax.specs.declared.program.Cmd.TheOpen.Cmd-F.{If, While, Seq, Call, Interact}
 use Rattle.br_syntax.specs.declared.program.Cmd.TheFolds.{fold-Cmd}
 use Rattle.br_syntax.specs.declared.program.Func.{Func}
 
@@ -33,7 +35,8 @@ command_step (Set name value) = true
 command_step (Unset name) = true
 command_step (Store size address value) = true
 command_step (Stackalloc name size body) = is_buffer_size size && list_all (λ ok. ok) body
-command_step (If test then_body else_body) = list_all (λ ok. ok) then_body && list_all (λ ok. ok) else_body
+command_step (If test then_body else_body) =
+    list_all (λ ok. ok) then_body && list_all (λ ok. ok) else_body
 command_step (While test body) = list_all (λ ok. ok) body
 command_step (Seq body) = list_all (λ ok. ok) body
 command_step (Call at results callee arguments) = are_names results && are_arguments arguments
@@ -45,7 +48,8 @@ is_shaped_command = fold-Cmd Bool command_step
 
 -- whether a function keeps the limits throughout
 abbrev pub is_shaped_function : Func → Bool
-is_shaped_function f = are_names f.args && (are_names f.results && list_all is_shaped_command f.body)
+is_shaped_function f =
+    are_names f.args && (are_names f.results && list_all is_shaped_command f.body)
 
 -- each function keeps the limits on names, arguments and buffers
 abbrev pub IsShaped : List Func → Type 0

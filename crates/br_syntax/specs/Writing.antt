@@ -8,7 +8,8 @@ use Rattle.br_syntax.specs.Denotes.{names, arguments_from, commands}
 
 -- a list of this word and trees that stand for these commands
 abbrev pub IsBodyTree : Tree → List ℕ → List Cmd → Type 0
-IsBodyTree t word body = (trees : List Tree) × ((t ≡ tree.List 0 (tree.Name 0 word ∷ trees)) × (commands trees ≡ Ok body))
+IsBodyTree t word body = (trees : List Tree)
+    × ((t ≡ tree.List 0 (tree.Name 0 word ∷ trees)) × (commands trees ≡ Ok body))
 
 -- a list of this word, these results, this name and trees that stand for these arguments
 abbrev pub IsTargetTree : Tree → List ℕ → List (List ℕ) → List ℕ → List Expr → Type 0

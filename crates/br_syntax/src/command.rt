@@ -1,7 +1,10 @@
 // Trees as commands.
 
 ghost use Rattle.std.specs.Prelude.{◌≡◌, IfOk, map};
-ghost use Rattle.br_syntax.specs.Denotes.{Places, places, with_places, command, command_of, form_of, skip_of, set_of, unset_of, store_of, stackalloc_of, if_of, while_of, seq_of, call_of, interact_of, target_of, behind_of, commands};
+ghost use Rattle.br_syntax.specs.Denotes.{Places, places, with_places, command, command_of};
+ghost use Rattle.br_syntax.specs.Denotes.{form_of, skip_of, set_of, unset_of, store_of};
+ghost use Rattle.br_syntax.specs.Denotes.{stackalloc_of, if_of, while_of, seq_of, call_of};
+ghost use Rattle.br_syntax.specs.Denotes.{interact_of, target_of, behind_of, commands};
 
 use crate::expression::{arguments, expression};
 use crate::faults::ShapeFault;

@@ -1,7 +1,9 @@
 // Trees as expressions.
 
 ghost use Rattle.std.specs.Prelude.{◌≡◌, IfOk, map};
-ghost use Rattle.br_syntax.specs.Denotes.{expression, expression_of, of_two, of_three, of_four, with_expression, argument_at, arguments_from, load_of, table_of, operation_of, ite_of};
+ghost use Rattle.br_syntax.specs.Denotes.{expression, expression_of, of_two, of_three, of_four};
+ghost use Rattle.br_syntax.specs.Denotes.{with_expression, argument_at, arguments_from};
+ghost use Rattle.br_syntax.specs.Denotes.{load_of, table_of, operation_of, ite_of};
 
 use crate::faults::ShapeFault;
 use crate::part::{MOST_NAMES, bytes};
@@ -66,7 +68,8 @@ fn of_three(
     x: &Tree,
     y: &Tree,
 ) -> Result<Shaped<Expr>, NoMemory>
-    ensures { IfOk result (λ r. r ≡ of_three at first (with_expression x.now) (with_expression y.now)) }
+    ensures { IfOk result
+        (λ r. r ≡ of_three at first (with_expression x.now) (with_expression y.now)) }
 {
     match first {
         Some(ExprWord::Table(size)) => table(alloc, size, bytes(alloc, x)?, expression(alloc, y)?),
@@ -91,7 +94,8 @@ fn of_four(
     y: &Tree,
     z: &Tree,
 ) -> Result<Shaped<Expr>, NoMemory>
-    ensures { IfOk result (λ r. r ≡ of_four at first (with_expression x.now) (with_expression y.now) (with_expression z.now)) }
+    ensures { IfOk result (λ r. r ≡ of_four at first (with_expression x.now) (with_expression y.now)
+        (with_expression z.now)) }
 {
     match first {
         Some(ExprWord::Ite) => {

@@ -2,7 +2,8 @@
 
 ghost use Rattle.std.specs.Prelude.{◌≡◌, IfOk, IfErr};
 ghost use Rattle.br_base.specs.Faults.{IfFault};
-ghost use Rattle.br_syntax.specs.Denotes.{function, function_list, function_of, functions, Denotes, IsShapeFault};
+ghost use Rattle.br_syntax.specs.Denotes.{function, function_list, function_of};
+ghost use Rattle.br_syntax.specs.Denotes.{functions, Denotes, IsShapeFault};
 
 use crate::command::commands;
 use crate::faults::ShapeFault;

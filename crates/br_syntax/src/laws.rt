@@ -3,7 +3,8 @@
 ghost use Rattle.std.specs.Prelude.{List};
 ghost use Rattle.br_sexpr.specs.declared.tree.Tree.{Tree};
 ghost use Rattle.br_syntax.specs.declared.program.Func.{Func};
-ghost use Rattle.br_syntax.specs.Laws.{HasMeaning, AtMostOneProgram, AtMostOneFault, NeverBoth, KeepsLimits, FaultIsLowest, NoneStands, UnplacedAgain};
+ghost use Rattle.br_syntax.specs.Laws.{HasMeaning, AtMostOneProgram, AtMostOneFault, NeverBoth};
+ghost use Rattle.br_syntax.specs.Laws.{KeepsLimits, FaultIsLowest, NoneStands, UnplacedAgain};
 
 /// Each list of trees stands for a program or has a lowest fault of shape, never both, and one
 /// alone. The fault is the lowest of all faults of shape that stand in the trees, and where trees

@@ -6,7 +6,8 @@ ghost use Rattle.std.specs.Str.{bytes_eq};
 ghost use Rattle.br_sexpr.specs.declared.tree.Tree.{out-Tree};
 ghost use Rattle.br_syntax.specs.declared.faults.ShapeFault.TheVariants.{BadForm};
 ghost use Rattle.br_syntax.specs.Shaped.{all};
-ghost use Rattle.br_syntax.specs.Denotes.{offset_of, word_of, name, names, names_after, name_among, buffer_size, bytes, byte};
+ghost use Rattle.br_syntax.specs.Denotes.{offset_of, word_of, name, names, names_after};
+ghost use Rattle.br_syntax.specs.Denotes.{name_among, buffer_size, bytes, byte};
 
 use crate::faults::ShapeFault;
 use crate::shaped::{Shaped, push};
@@ -19,7 +20,7 @@ use std::alloc::Global;
 /// Up to this many names stand in a list of names, and arguments in a call or an interaction.
 pub const MOST_NAMES: usize = 8;
 
-/// The largest size of a buffer.
+// The largest size of a buffer.
 const LARGEST_BUFFER: u32 = 65536;
 
 pub fn bad_form(tree: &Tree) -> ShapeFault

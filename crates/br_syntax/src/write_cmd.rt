@@ -3,7 +3,8 @@
 ghost use Rattle.std.specs.Prelude.{◌≡◌, IfOk, IsTrue, map};
 ghost use Rattle.std.specs.List.{list_all};
 ghost use Rattle.br_base.specs.Name.{IsName};
-ghost use Rattle.br_syntax.specs.Shape.{is_shaped_command, is_buffer_size, are_names, are_arguments};
+ghost use Rattle.br_syntax.specs.Shape.{is_shaped_command, is_buffer_size};
+ghost use Rattle.br_syntax.specs.Shape.{are_names, are_arguments};
 ghost use Rattle.br_syntax.specs.Denotes.{command, commands};
 ghost use Rattle.br_syntax.specs.Writing.{IsBodyTree, IsTargetTree};
 ghost use Rattle.br_syntax.specs.Offsets.{is_unplaced, unplaced, AreUnplaced};
@@ -102,7 +103,8 @@ fn stackalloc_tree(
 ) -> Result<Tree, NoMemory>
     requires size { IsTrue (is_buffer_size size) }
     requires body { IsTrue (list_all is_shaped_command body.now) }
-    ensures denotes { IfOk result (λ t. command t ≡ Ok (Cmd.Stackalloc variable.now size (map unplaced body.now))) }
+    ensures denotes { IfOk result
+        (λ t. command t ≡ Ok (Cmd.Stackalloc variable.now size (map unplaced body.now))) }
     ensures offsets { IfOk result (λ t. IsTrue (is_unplaced t)) }
 {
     let mut items = form(alloc, b"stackalloc")?;
@@ -116,7 +118,8 @@ fn stackalloc_tree(
 fn if_tree(alloc: Global, test: &Expr, yes: &[Cmd], no: &[Cmd]) -> Result<Tree, NoMemory>
     requires yes { IsTrue (list_all is_shaped_command yes.now) }
     requires no { IsTrue (list_all is_shaped_command no.now) }
-    ensures denotes { IfOk result (λ t. command t ≡ Ok (Cmd.If test.now (map unplaced yes.now) (map unplaced no.now))) }
+    ensures denotes { IfOk result
+        (λ t. command t ≡ Ok (Cmd.If test.now (map unplaced yes.now) (map unplaced no.now))) }
     ensures offsets { IfOk result (λ t. IsTrue (is_unplaced t)) }
 {
     let mut items = form(alloc, b"if")?;
@@ -129,7 +132,8 @@ fn if_tree(alloc: Global, test: &Expr, yes: &[Cmd], no: &[Cmd]) -> Result<Tree, 
 #[cycle(cmd_tree)]
 fn while_tree(alloc: Global, test: &Expr, body: &[Cmd]) -> Result<Tree, NoMemory>
     requires { IsTrue (list_all is_shaped_command body.now) }
-    ensures denotes { IfOk result (λ t. command t ≡ Ok (Cmd.While test.now (map unplaced body.now))) }
+    ensures denotes { IfOk result
+        (λ t. command t ≡ Ok (Cmd.While test.now (map unplaced body.now))) }
     ensures offsets { IfOk result (λ t. IsTrue (is_unplaced t)) }
 {
     let mut items = form(alloc, b"while")?;

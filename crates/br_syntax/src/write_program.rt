@@ -4,7 +4,8 @@ ghost use Rattle.std.specs.Prelude.{◌≡◌, IfOk, IsTrue};
 ghost use Rattle.std.specs.List.{list_all};
 ghost use Rattle.br_syntax.specs.Shape.{is_shaped_function};
 ghost use Rattle.br_syntax.specs.Denotes.{function, Denotes};
-ghost use Rattle.br_syntax.specs.Offsets.{is_unplaced, AreUnplaced, unplaced_function, without_offsets};
+ghost use Rattle.br_syntax.specs.Offsets.{is_unplaced, AreUnplaced};
+ghost use Rattle.br_syntax.specs.Offsets.{unplaced_function, without_offsets};
 
 use crate::program::{Func, Program};
 use crate::write_cmd::cmd_trees;

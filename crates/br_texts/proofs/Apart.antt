@@ -1,26 +1,18 @@
 -- Ranges that lie apart, and the addresses at which a memory has no byte.
-use Rattle.std.proofs.Common.{◌≡◌, ◌≢◌, ℕ, ◌+◌, ◌^◌, ◌<◌, ◌≤◌, List, [], ◌∷◌, length, Some, None, suc, drop, get_or, drop-cons, cond, refl, sym, ap, ◌∙◌, arith}
+use Rattle.std.proofs.Common.{◌≡◌, ◌≢◌, ℕ, ◌+◌, ◌^◌, ◌<◌, ◌≤◌, List, [], ◌∷◌, length, Some, None}
+use Rattle.std.proofs.Common.{suc, drop, get_or, drop-cons, cond, refl, sym, ap, ◌∙◌, arith}
 use Rattle.std.specs.Prelude.{IsTrue}
-use Rattle.std.specs.Ordering.{nat_cmp, is_eq}
-use Rattle.std.specs.declared.cmp.Ordering.{Ordering}
-use Rattle.std.specs.declared.cmp.Ordering.TheVariants.{Less, Equal, Greater}
 use Rattle.std.specs.FinMap as map
-use Rattle.std.specs.Cmp.{nat_cmp_total}
+use Rattle.std.specs.Ordering.{nat_cmp}
 use Rattle.br_bytes.specs.declared.run.Choice.{Choice}
 use Rattle.br_bytes.specs.Memory.{Memory, place, with_bytes}
+use Rattle.br_bytes.proofs.Bytes.{get-insert_other}
 use Rattle.br_words.specs.Layout.{data_base}
 use Rattle.br_texts.specs.Memory.{AreRanges}
 
-get-insert_other : (m : Memory) (k b q : ℕ) → q ≢ k → map.get (map.insert m k b) q ≡ map.get m q
-get-insert_other m k b q ne = map.get-insert nat_cmp_total m k b q ∙ from (nat_cmp q k) refl
-  where
-    from : (o : Ordering) → nat_cmp q k ≡ o → cond (is_eq o) (Some b) (map.get m q) ≡ map.get m q
-    from Less e = refl
-    from Equal e = absurd (ne (map.nat_cmp-IsAntisymmetric q k e))
-    from Greater e = refl
-
 -- bytes that are added change nothing after them
-get-after : (bs : List ℕ) (m : Memory) (a q : ℕ) → a + length bs ≤ 2 ^ 32 → a + length bs ≤ q → map.get (with_bytes m a bs) q ≡ map.get m q
+get-after : (bs : List ℕ) (m : Memory) (a q : ℕ) → a + length bs ≤ 2 ^ 32 → a + length bs ≤ q
+    → map.get (with_bytes m a bs) q ≡ map.get m q
 get-after [] m a q fits after = refl
 get-after (b ∷ bs) m a q fits after =
     let same : place a ≡ a = omega arith in
@@ -43,7 +35,8 @@ ahead-empty ranges are = record {
   free = λ a _. map.get-empty nat_cmp a;
 }
 
-pub ahead-step : (m : Memory) (c : Choice) (rest : List Choice) → Ahead m (c ∷ rest) → Ahead (with_bytes m c.addr c.bytes) rest
+pub ahead-step : (m : Memory) (c : Choice) (rest : List Choice) → Ahead m (c ∷ rest)
+    → Ahead (with_bytes m c.addr c.bytes) rest
 ahead-step m c rest ahead =
     let are = ahead.ranges in
     let first : ahead.from ≤ c.addr = are.0 in
@@ -61,7 +54,8 @@ pub not_free : (m : Memory) (a : ℕ) → map.get m a ≡ None → IsTrue (map.c
 not_free m a free there = let no = rw free at there in absurd (cc (no))
 
 -- the first of the items that are left
-pub next-item : {X : Type 0} (xs : List X) (i : ℕ) (x : X) → i < length xs → x ≡ get_or xs i x → drop i xs ≡ x ∷ drop (i + 1) xs
+pub next-item : {X : Type 0} (xs : List X) (i : ℕ) (x : X) → i < length xs → x ≡ get_or xs i x
+    → drop i xs ≡ x ∷ drop (i + 1) xs
 next-item xs i x below is =
     let place : suc i ≡ i + 1 = omega arith in
     drop-cons xs i x below ∙ (ap (λ y. y ∷ drop (suc i) xs) (sym is) ∙ ap (λ k. x ∷ drop k xs) place)

@@ -5,7 +5,8 @@ use Rattle.std.specs.List.{AllByRecursion, flat_map}
 use Rattle.br_bytes.specs.declared.run.Choice.{Choice}
 use Rattle.br_words.specs.Layout.{data_base}
 use Rattle.br_image.specs.declared.scripts.lines.ScriptLine.{ScriptLine}
-use Rattle.br_image.specs.declared.scripts.lines.ScriptLine.TheVariants.{Run, Interp, Call, Args, Mem, Junk, Choose, Answer, Limit, End}
+use Rattle.br_image.specs.declared.scripts.lines.ScriptLine.TheVariants.{Run, Interp, Call, Args, Mem}
+use Rattle.br_image.specs.declared.scripts.lines.ScriptLine.TheVariants.{Junk, Choose, Answer, Limit, End}
 use Rattle.br_image.specs.declared.scripts.values.RunScript.{RunScript}
 use Rattle.br_image.specs.declared.scripts.values.InterpScript.{InterpScript}
 use Rattle.br_image.specs.ScriptLines.{IsScriptLine, IsRange}
@@ -23,7 +24,8 @@ by_recursion : {X : Type 0} (P : X → Type 0) (xs : List X) → All P xs → Al
 by_recursion P [] all = tt
 by_recursion P (x ∷ xs) all = (head P x xs all, by_recursion P xs (tail P x xs all))
 
-args-few : (lines : List ScriptLine) (words : List ℕ) → AllByRecursion IsScriptLine lines → flat_map args_in lines ≡ words ∷ [] → length words ≤ 8
+args-few : (lines : List ScriptLine) (words : List ℕ) → AllByRecursion IsScriptLine lines
+    → flat_map args_in lines ≡ words ∷ [] → length words ≤ 8
 args-few [] words all is = absurd (cc)
 args-few (Run ∷ lines) words all is = args-few lines words all.1 is
 args-few (Interp ∷ lines) words all is = args-few lines words all.1 is
@@ -38,7 +40,8 @@ args-few (Answer word times ∷ lines) words all is = args-few lines words all.1
 args-few (Limit n ∷ lines) words all is = args-few lines words all.1 is
 args-few (End ∷ lines) words all is = args-few lines words all.1 is
 
-mem-ranges : (lines : List ScriptLine) → AllByRecursion IsScriptLine lines → AllByRecursion IsRange (flat_map mem_in lines)
+mem-ranges : (lines : List ScriptLine) → AllByRecursion IsScriptLine lines
+    → AllByRecursion IsRange (flat_map mem_in lines)
 mem-ranges [] all = tt
 mem-ranges (Run ∷ lines) all = mem-ranges lines all.1
 mem-ranges (Interp ∷ lines) all = mem-ranges lines all.1
@@ -51,7 +54,8 @@ mem-ranges (Answer word times ∷ lines) all = mem-ranges lines all.1
 mem-ranges (Limit n ∷ lines) all = mem-ranges lines all.1
 mem-ranges (End ∷ lines) all = mem-ranges lines all.1
 
-ranges-after : (ranges : List Choice) (from : ℕ) → Ascends from ranges → AllByRecursion IsRange ranges → AreRanges from ranges
+ranges-after : (ranges : List Choice) (from : ℕ) → Ascends from ranges → AllByRecursion IsRange ranges
+    → AreRanges from ranges
 ranges-after [] from ascends all = tt
 ranges-after (c ∷ ranges) from ascends all = (
   ascends.0,

@@ -34,18 +34,22 @@ ends-as limit first (Waiting a) running ended =
 ends-as limit first (Trapped trap pc) running ended =
     inr (λ all. (let no : Trapped trap pc ≡ Running = running.1 all in absurd (cc)), ended (λ no. absurd (cc)))
 
-pub run-shows : (s : RunScript) (i : Image) (e : Entry) (first : Moment) (machine : MachineState) (events : List Event) (end : End) (text : List ℕ) →
+pub run-shows : (s : RunScript) (i : Image) (e : Entry) (first : Moment) (machine : MachineState) (events : List Event)
+    (end : End) (text : List ℕ) →
     first ≡ first_moment s i e →
     machine ≡ (after_steps s.limit first).machine →
     events ≡ (after_steps s.limit first).trace →
     ((end ≡ Running) ↔ AllGoOn s.limit first) →
     (end ≢ Running → end ≡ end_of (next_step (after_steps s.limit first)).1) →
-    text ≡ event_lines events ++ line (end_text (values (register machine) 10 e.results) end) ++ lines_after end machine s →
+    text ≡ event_lines events ++ line (end_text (values (register machine) 10 e.results) end)
+    ++ lines_after end machine s →
     IsRunText s i e text
 run-shows s i e first machine events end text is at_machine at_events running ended shown =
     let last = after_steps s.limit first in
-    let by_machine : text ≡ event_lines events ++ line (end_text (values (register last.machine) 10 e.results) end) ++ lines_after end last.machine s =
-    subst (λ (m : MachineState). text ≡ event_lines events ++ line (end_text (values (register m) 10 e.results) end) ++ lines_after end m s)
+    let by_machine : text ≡ event_lines events ++ line (end_text (values (register last.machine) 10 e.results) end)
+    ++ lines_after end last.machine s =
+    subst (λ (m : MachineState). text
+    ≡ event_lines events ++ line (end_text (values (register m) 10 e.results) end) ++ lines_after end m s)
     at_machine shown in
     record {
       last = last;
@@ -53,18 +57,21 @@ run-shows s i e first machine events end text is at_machine at_events running en
       steps = ap (after_steps s.limit) is;
       ended = subst (λ (m : Moment). EndsAs s.limit m end) is (ends-as s.limit first end running ended);
       written =
-          subst (λ (es : List Event). text ≡ event_lines es ++ line (end_text (values (register last.machine) 10 e.results) end) ++ lines_after end last.machine s)
+          subst (λ (es : List Event). text ≡ event_lines es
+          ++ line (end_text (values (register last.machine) 10 e.results) end) ++ lines_after end last.machine s)
           at_events by_machine;
     }
 
 -- the machine that a run starts with, from equal parts
-pub same-start : (l : Layout) (code code' : List ℕ) (offset : ℕ) (args args' : List ℕ) (m m' : Memory) (j : Leftover) → code ≡ code' → args ≡ args' → m ≡ m' →
+pub same-start : (l : Layout) (code code' : List ℕ) (offset : ℕ) (args args' : List ℕ) (m m' : Memory) (j : Leftover)
+    → code ≡ code' → args ≡ args' → m ≡ m' →
     start l code offset args m j ≡ start l code' offset args' m' j
 same-start l code code' offset args args' m m' j c a e =
     ap (λ (x : List ℕ). start l x offset args m j) c
     ∙ (ap (λ (x : List ℕ). start l code' offset x m j) a ∙ ap (λ (x : Memory). start l code' offset args' x j) e)
 
-pub same-moment : (s t : MachineState) (answers answers' : List ℕ) (events : List Event) → s ≡ t → answers ≡ answers' → events ≡ [] →
+pub same-moment : (s t : MachineState) (answers answers' : List ℕ) (events : List Event) → s ≡ t → answers ≡ answers'
+    → events ≡ [] →
     at_start s answers events ≡ at_start t answers' []
 same-moment s t answers answers' events m a e =
     ap (λ (x : MachineState). at_start x answers events) m
@@ -72,14 +79,17 @@ same-moment s t answers answers' events m a e =
 
 pub interp-shows : (s : InterpScript) (fs : List Func) (f : Func) (finished : Finished) (text : List ℕ) →
     called_of finished ≡ called_by s fs f →
-    text ≡ event_lines finished.trace ++ line (outcome_text finished.outcome) ++ interp_lines_after finished.outcome finished.memory s →
+    text ≡ event_lines finished.trace ++ line (outcome_text finished.outcome)
+    ++ interp_lines_after finished.outcome finished.memory s →
     text ≡ interp_text s fs f
 interp-shows s fs f finished text is shown =
     shown
-    ∙ ap (λ (called : Called). event_lines called.trace ++ line (outcome_text called.outcome) ++ interp_lines_after called.outcome called.memory s) is
+    ∙ ap (λ (called : Called). event_lines called.trace ++ line (outcome_text called.outcome)
+    ++ interp_lines_after called.outcome called.memory s) is
 
 -- a call, from equal parts
-pub same-call : (fs gs : List Func) (f : Func) (args args' : List ℕ) (m m' : Memory) (answers answers' : List ℕ) (choices choices' : List Choice) (k : ℕ) →
+pub same-call : (fs gs : List Func) (f : Func) (args args' : List ℕ) (m m' : Memory) (answers answers' : List ℕ)
+    (choices choices' : List Choice) (k : ℕ) →
     fs ≡ gs → args ≡ args' → m ≡ m' → answers ≡ answers' → choices ≡ choices' →
     call fs f args m answers choices k ≡ call gs f args' m' answers' choices' k
 same-call fs gs f args args' m m' answers answers' choices choices' k p a e q r =

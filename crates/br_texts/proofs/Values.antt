@@ -10,4 +10,5 @@ values-step at a i n xs all below so_far =
     let place : a + i + 1 ≡ a + (i + 1) = omega arith in
     let split : values at (a + i) (n - i) ≡ at (a + i) ∷ values at (a + (i + 1)) (n - (i + 1)) =
     ap (values at (a + i)) count ∙ ap (λ p. at (a + i) ∷ values at p (n - (i + 1))) place in
-    append_assoc xs (at (a + i) ∷ []) (values at (a + (i + 1)) (n - (i + 1))) ∙ (ap (λ ys. xs ++ ys) (sym split) ∙ so_far)
+    append_assoc xs (at (a + i) ∷ []) (values at (a + (i + 1)) (n - (i + 1)))
+    ∙ (ap (λ ys. xs ++ ys) (sym split) ∙ so_far)

@@ -1,9 +1,10 @@
--- What a run of a source program shows: its events, its end, and after a call that is done the memory
--- that the script gave.
+-- What a run of a source program shows: its events, its end, and after a call that is
+-- done the memory that the script gave.
 use Rattle.std.specs.Prelude.{ℕ, List, [], ◌++◌, unwrap_or}
 use Rattle.std.specs.FinMap as map
 use Rattle.br_bytes.specs.declared.run.Outcome.{Outcome}
-use Rattle.br_bytes.specs.declared.run.Outcome.TheVariants.{Done, Waiting, OutOfFuel, Undefined, NoChoice}
+use Rattle.br_bytes.specs.declared.run.Outcome.TheVariants.{Done, Waiting, OutOfFuel}
+use Rattle.br_bytes.specs.declared.run.Outcome.TheVariants.{Undefined, NoChoice}
 use Rattle.br_bytes.specs.Memory.{Memory}
 use Rattle.br_syntax.specs.declared.program.Func.{Func}
 use Rattle.br_source_meaning.specs.Calls.{Called, call}
@@ -32,4 +33,5 @@ lines_after NoChoice m s = []
 abbrev pub interp_text : InterpScript → List Func → Func → List ℕ
 interp_text s fs f =
     let called = called_by s fs f in
-    event_lines called.trace ++ line (outcome_text called.outcome) ++ lines_after called.outcome called.memory s
+    event_lines called.trace ++ line (outcome_text called.outcome)
+    ++ lines_after called.outcome called.memory s

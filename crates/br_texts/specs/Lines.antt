@@ -1,5 +1,5 @@
 -- The lines that show a run: its events, its end, and bytes of its memory.
-use Rattle.std.specs.Prelude.{ℕ, ◌/◌, ◌%◌, List, [], ◌∷◌, ◌++◌, codes}
+use Rattle.std.specs.Prelude.{ℕ, List, [], ◌∷◌, ◌++◌, codes}
 use Rattle.std.specs.List.{flat_map}
 use Rattle.br_bytes.specs.declared.run.Event.{Event}
 use Rattle.br_bytes.specs.declared.run.Event.TheVariants.{Read, Write}
@@ -8,19 +8,12 @@ use Rattle.br_bytes.specs.declared.run.Outcome.TheVariants as outcome
 use Rattle.br_machine.specs.declared.running.End.{End}
 use Rattle.br_machine.specs.declared.running.End.TheVariants as end
 use Rattle.br_machine.specs.declared.stepped.Trap.{Trap}
-use Rattle.br_machine.specs.declared.stepped.Trap.TheVariants.{Illegal, FetchOutside, FetchMisaligned, AccessOutside, DeviceAccess, CodeWrite}
-use Rattle.br_image.specs.Text.{hex_digit, word_text, line}
-
--- the two digits of a byte
-abbrev pub byte_text : ℕ → List ℕ
-byte_text b = hex_digit (b / 16) ∷ hex_digit (b % 16) ∷ []
-
-abbrev pub bytes_text : List ℕ → List ℕ
-bytes_text bytes = flat_map byte_text bytes
-
--- a field for each word, after one space
-abbrev pub word_fields : List ℕ → List ℕ
-word_fields words = flat_map (λ w. 32 ∷ word_text w) words
+use Rattle.br_machine.specs.declared.stepped.Trap.TheVariants.{Illegal, FetchOutside}
+use Rattle.br_machine.specs.declared.stepped.Trap.TheVariants.{FetchMisaligned, AccessOutside}
+use Rattle.br_machine.specs.declared.stepped.Trap.TheVariants.{DeviceAccess, CodeWrite}
+use Rattle.br_image.specs.Text.{word_text, line}
+use Rattle.br_bytes.specs.Hexadecimal.{bytes_text}
+use Rattle.br_image.specs.Fields.{word_fields}
 
 -- ---- events
 

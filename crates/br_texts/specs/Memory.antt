@@ -7,8 +7,8 @@ use Rattle.br_bytes.specs.Memory.{Memory, with_bytes}
 use Rattle.br_words.specs.Layout.{stack_base}
 use Rattle.br_texts.specs.Lines.{bytes_line}
 
--- ranges that end in or before the data region, each at or after the end of the one before it, and the
--- first from an address on
+-- ranges that end in or before the data region, each at or after the end of the one
+-- before it, and the first from an address on
 abbrev pub AreRanges : ℕ → List Choice → Type 0
 AreRanges from [] = Unit {0}
 AreRanges from (c ∷ ranges) =
@@ -31,4 +31,5 @@ values at a (suc n) = at a ∷ values at (a + 1) n
 
 -- a line for each range, with the bytes that now stand there
 abbrev pub range_lines : (ℕ → ℕ) → List Choice → List ℕ
-range_lines byte ranges = flat_map (λ c. bytes_line c.addr (values byte c.addr (length c.bytes))) ranges
+range_lines byte ranges =
+    flat_map (λ c. bytes_line c.addr (values byte c.addr (length c.bytes))) ranges

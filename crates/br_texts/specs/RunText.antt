@@ -1,5 +1,5 @@
--- What a run of an image shows: its events, its end, and after a call that has ended the memory that the
--- script gave. The machine is RV32IM's (RISC-V unprivileged manual), step by step.
+-- What a run of an image shows: its events, its end, and after a call that has ended the memory
+-- that the script gave. The machine is RV32IM's (RISC-V unprivileged manual), step by step.
 use Rattle.std.specs.Prelude.{ℕ, ◌≤◌, length, ◌≡◌, ◌⊎◌, List, [], ◌++◌}
 use Rattle.br_image.specs.declared.images.Entry.{Entry}
 use Rattle.br_image.specs.declared.images.Image.{Image}
@@ -21,8 +21,8 @@ abbrev pub first_moment : RunScript → Image → Entry → Moment
 first_moment s i e =
     at_start (start i.layout i.code e.offset s.args (memory_of s.mem) (junk_of s.junk)) s.answers []
 
--- How a run of at most `limit` steps ends: it still runs, where each of them went on, and else it ends as
--- the first step that did not go on.
+-- How a run of at most `limit` steps ends: it still runs, where each of them went on, and else it
+-- ends as the first step that did not go on.
 abbrev pub EndsAs : ℕ → Moment → End → Type 0
 EndsAs limit first end =
     (AllGoOn limit first × (end ≡ Running))
@@ -46,5 +46,6 @@ pub record IsRunText (s : RunScript) (i : Image) (e : Entry) (text : List ℕ) :
   pub end : End
   pub steps : last ≡ after_steps s.limit (first_moment s i e)
   pub ended : EndsAs s.limit (first_moment s i e) end
-  pub written : text ≡ event_lines last.trace ++ line (end_text (values (register last.machine) 10 e.results) end)
+  pub written : text
+      ≡ event_lines last.trace ++ line (end_text (values (register last.machine) 10 e.results) end)
       ++ lines_after end last.machine s

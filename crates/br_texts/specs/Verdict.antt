@@ -15,8 +15,8 @@ pub record DepartsAfter (events : List Event) (n : ℕ) : Type 0 where
   pub kept : Keeps events n
   pub departs : ¬ BeginsGood (take (n + 1) events)
 
--- the verdict: all events keep to the language, and how many they are, or which is the first to depart,
--- counted from 1
+-- the verdict: all events keep to the language, and how many they are, or which
+-- is the first to depart, counted from 1
 abbrev pub IsVerdict : List Event → List ℕ → Type 0
 IsVerdict events text =
     (Keeps events (length events) × (text ≡ line (codes "prefix " ++ decimal (length events))))

@@ -1,6 +1,7 @@
 // What a run of a source program shows.
 
-ghost use Rattle.std.specs.Prelude.{◌≡◌, ◌++◌, ◌+◌, ◌^◌, ◌<◌, ℕ, List, length, slice_get, Some, IfOk, OnOk};
+ghost use Rattle.std.specs.Prelude.{◌≡◌, ◌++◌, ◌+◌, ◌^◌, ◌<◌, ℕ, List};
+ghost use Rattle.std.specs.Prelude.{length, slice_get, Some, IfOk, OnOk};
 ghost use Rattle.br_image.specs.Scripts.{IsInterpScript};
 ghost use Rattle.br_image.specs.Text.{line};
 ghost use Rattle.br_words.specs.Layout.{data_base};
@@ -18,8 +19,8 @@ use br_source_meaning::{Finished, Interp};
 use br_syntax::Program;
 use std::alloc::Global;
 
-/// What the run of a script on a program shows, which calls the function of this number: its events,
-/// its end, and after a call that is done the bytes of the script's ranges.
+/// What the run of a script on a program shows, which calls the function of this number: its
+/// events, its end, and after a call that is done the bytes of the script's ranges.
 pub fn interp_text(
     alloc: Global,
     script: &InterpScript,
@@ -46,10 +47,11 @@ pub fn interp_text(
     Ok(text)
 }
 
-/// What a run that has ended shows.
+// What a run that has ended shows.
 fn shown(alloc: Global, finished: &Finished, script: &InterpScript) -> Result<Vec<u8>, NoMemory>
     requires { AreRanges data_base script.now.mem }
-    ensures { IfOk result (λ text. text.items ≡ event_lines finished.now.trace ++ line (outcome_text finished.now.outcome)
+    ensures { IfOk result (λ text. text.items
+        ≡ event_lines finished.now.trace ++ line (outcome_text finished.now.outcome)
         ++ lines_after finished.now.outcome finished.now.memory script.now) }
 {
     let mut text = Vec::new(alloc);
@@ -61,7 +63,7 @@ fn shown(alloc: Global, finished: &Finished, script: &InterpScript) -> Result<Ve
     Ok(text)
 }
 
-/// Adds a line for each range, with the bytes that now stand there.
+// Adds a line for each range, with the bytes that now stand there.
 fn push_ranges(
     alloc: Global,
     text: &mut Vec<u8>,
@@ -69,7 +71,8 @@ fn push_ranges(
     ranges: &[Choice],
 ) -> Result<(), NoMemory>
     requires { AreRanges data_base ranges.now }
-    ensures { OnOk result (text.new.items ≡ text.old.items ++ range_lines (byte_in memory.now) ranges.now) }
+    ensures { OnOk result
+        (text.new.items ≡ text.old.items ++ range_lines (byte_in memory.now) ranges.now) }
 {
     for range in ranges {
         let bytes = memory_bytes(alloc, memory, range.addr, range.bytes.len() as u32)?;
@@ -78,7 +81,7 @@ fn push_ranges(
     Ok(())
 }
 
-/// The bytes at `n` addresses of a memory.
+// The bytes at `n` addresses of a memory.
 fn memory_bytes(alloc: Global, memory: &ByteMap, a: u32, n: u32) -> Result<Vec<u8>, NoMemory>
     requires { a + n < 2 ^ 32 }
     ensures { IfOk result (λ bytes. bytes.items ≡ values (byte_in memory.now) a n) }

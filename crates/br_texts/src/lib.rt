@@ -1,5 +1,5 @@
-//! The texts that the commands `run`, `interp` and `judge` answer: what a machine or a program of the
-//! source language shows of a run, and a verdict on events.
+//! The texts that the commands `run`, `interp` and `judge` answer: what a machine or a program of
+//! the source language shows of a run, and a verdict on events.
 #![tactic(auto)]
 
 mod entries;

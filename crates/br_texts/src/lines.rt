@@ -2,7 +2,10 @@
 
 ghost use Rattle.std.specs.Prelude.{◌≡◌, ◌∷◌, ◌++◌, [], OnOk, codes};
 ghost use Rattle.br_image.specs.Text.{word_text, line};
-ghost use Rattle.br_texts.specs.Lines.{byte_text, bytes_text, word_fields, event_text, event_lines, trap_text, end_text, outcome_text, bytes_line};
+ghost use Rattle.br_texts.specs.Lines.{event_text, event_lines, trap_text};
+ghost use Rattle.br_texts.specs.Lines.{end_text, outcome_text, bytes_line};
+ghost use Rattle.br_image.specs.Fields.{word_fields};
+ghost use Rattle.br_bytes.specs.Hexadecimal.{byte_text, bytes_text};
 
 use br_base::NoMemory;
 use br_bytes::{Event, Outcome};
@@ -20,7 +23,7 @@ pub fn push_events(text: &mut Vec<u8>, events: &[Event]) -> Result<(), NoMemory>
     Ok(())
 }
 
-/// Adds the line of an event.
+// Adds the line of an event.
 fn push_event(text: &mut Vec<u8>, event: Event) -> Result<(), NoMemory>
     ensures { OnOk result (text.new.items ≡ text.old.items ++ line (event_text event)) }
 {
@@ -36,16 +39,17 @@ fn push_event(text: &mut Vec<u8>, event: Event) -> Result<(), NoMemory>
     }
 }
 
-/// Adds two words and the end of a line.
+// Adds two words and the end of a line.
 fn push_two_words(text: &mut Vec<u8>, first: u32, second: u32) -> Result<(), NoMemory>
-    ensures { OnOk result (text.new.items ≡ text.old.items ++ line (word_text first ++ 32 ∷ word_text second)) }
+    ensures { OnOk result
+        (text.new.items ≡ text.old.items ++ line (word_text first ++ 32 ∷ word_text second)) }
 {
     text.extend_from_slice(&word_digits(first))?;
     text.push(b' ')?;
     push_last_word(text, second)
 }
 
-/// Adds a word and the end of a line.
+// Adds a word and the end of a line.
 fn push_last_word(text: &mut Vec<u8>, word: u32) -> Result<(), NoMemory>
     ensures { OnOk result (text.new.items ≡ text.old.items ++ line (word_text word)) }
 {
@@ -54,7 +58,7 @@ fn push_last_word(text: &mut Vec<u8>, word: u32) -> Result<(), NoMemory>
     Ok(())
 }
 
-/// Adds a field for each word and the end of a line.
+// Adds a field for each word and the end of a line.
 fn push_last_words(text: &mut Vec<u8>, words: &[u32]) -> Result<(), NoMemory>
     ensures { OnOk result (text.new.items ≡ text.old.items ++ line (word_fields words.now)) }
 {
@@ -63,7 +67,7 @@ fn push_last_words(text: &mut Vec<u8>, words: &[u32]) -> Result<(), NoMemory>
     Ok(())
 }
 
-/// Adds a field for each word.
+// Adds a field for each word.
 fn push_words(text: &mut Vec<u8>, words: &[u32]) -> Result<(), NoMemory>
     ensures { OnOk result (text.new.items ≡ text.old.items ++ word_fields words.now) }
 {
@@ -131,7 +135,8 @@ pub fn push_outcome(text: &mut Vec<u8>, outcome: &Outcome) -> Result<(), NoMemor
     }
 }
 
-/// Adds the line of some bytes from an address on: `mem W BYTES`, with two hexadecimal digits a byte.
+/// Adds the line of some bytes from an address on:
+/// `mem W BYTES`, with two hexadecimal digits a byte.
 pub fn push_bytes_line(text: &mut Vec<u8>, address: u32, bytes: &[u8]) -> Result<(), NoMemory>
     ensures { OnOk result (text.new.items ≡ text.old.items ++ bytes_line address bytes.now) }
 {
@@ -139,16 +144,17 @@ pub fn push_bytes_line(text: &mut Vec<u8>, address: u32, bytes: &[u8]) -> Result
     push_range_fields(text, address, bytes)
 }
 
-/// Adds an address, the digits of bytes and the end of a line.
+// Adds an address, the digits of bytes and the end of a line.
 fn push_range_fields(text: &mut Vec<u8>, address: u32, bytes: &[u8]) -> Result<(), NoMemory>
-    ensures { OnOk result (text.new.items ≡ text.old.items ++ line (word_text address ++ 32 ∷ bytes_text bytes.now)) }
+    ensures { OnOk result
+        (text.new.items ≡ text.old.items ++ line (word_text address ++ 32 ∷ bytes_text bytes.now)) }
 {
     text.extend_from_slice(&word_digits(address))?;
     text.push(b' ')?;
     push_last_bytes(text, bytes)
 }
 
-/// Adds the digits of bytes and the end of a line.
+// Adds the digits of bytes and the end of a line.
 fn push_last_bytes(text: &mut Vec<u8>, bytes: &[u8]) -> Result<(), NoMemory>
     ensures { OnOk result (text.new.items ≡ text.old.items ++ line (bytes_text bytes.now)) }
 {
@@ -157,7 +163,7 @@ fn push_last_bytes(text: &mut Vec<u8>, bytes: &[u8]) -> Result<(), NoMemory>
     Ok(())
 }
 
-/// Adds the digits of bytes.
+// Adds the digits of bytes.
 fn push_bytes(text: &mut Vec<u8>, bytes: &[u8]) -> Result<(), NoMemory>
     ensures { OnOk result (text.new.items ≡ text.old.items ++ bytes_text bytes.now) }
 {

@@ -29,7 +29,7 @@ pub fn memory_of(alloc: Global, ranges: &[Choice]) -> Result<ByteMap, NoMemory>
     Ok(memory)
 }
 
-/// Adds the bytes of a range to a memory that has none from its first address on.
+// Adds the bytes of a range to a memory that has none from its first address on.
 fn add_range(memory: &mut ByteMap, range: &Choice) -> Result<(), NoMemory>
     requires within { range.now.addr + length range.now.bytes ≤ stack_base }
     requires free { (a : ℕ) → range.now.addr ≤ a → map.get memory.old a ≡ None }
@@ -60,7 +60,7 @@ pub(crate) fn machine_bytes(
     Ok(bytes)
 }
 
-/// The byte at an address of a machine's data region.
+// The byte at an address of a machine's data region.
 fn machine_byte(machine: &Machine, a: u32) -> u8
     requires low { data_base ≤ a }
     requires high { a < stack_base }

@@ -52,7 +52,7 @@ pub fn run_text(
     Ok(text)
 }
 
-/// What a machine shows after these events, with an end and a number of results.
+// What a machine shows after these events, with an end and a number of results.
 fn shown(
     alloc: Global,
     machine: &Machine,
@@ -63,7 +63,8 @@ fn shown(
 ) -> Result<Vec<u8>, NoMemory>
     requires results { results ≤ 8 }
     requires ranges { AreRanges data_base script.now.mem }
-    ensures { IfOk result (λ text. text.items ≡ event_lines events.now ++ line (end_text (values (register machine.now.state) 10 results) end)
+    ensures { IfOk result (λ text. text.items ≡ event_lines events.now
+        ++ line (end_text (values (register machine.now.state) 10 results) end)
         ++ lines_after end machine.now.state script.now) }
 {
     let mut text = Vec::new(alloc);
@@ -76,7 +77,7 @@ fn shown(
     Ok(text)
 }
 
-/// The words in the first registers of results, at most eight.
+// The words in the first registers of results, at most eight.
 fn words_in(alloc: Global, machine: &Machine, count: u32) -> Result<Vec<u32>, NoMemory>
     requires { count ≤ 8 }
     ensures { IfOk result (λ words. words.items ≡ values (register machine.now.state) 10 count) }
@@ -88,7 +89,7 @@ fn words_in(alloc: Global, machine: &Machine, count: u32) -> Result<Vec<u32>, No
     Ok(words)
 }
 
-/// Adds a line for each range, with the bytes that now stand there.
+// Adds a line for each range, with the bytes that now stand there.
 fn push_ranges(
     alloc: Global,
     text: &mut Vec<u8>,
@@ -96,7 +97,8 @@ fn push_ranges(
     ranges: &[Choice],
 ) -> Result<(), NoMemory>
     requires { AreRanges data_base ranges.now }
-    ensures { OnOk result (text.new.items ≡ text.old.items ++ range_lines (byte_of machine.now.state) ranges.now) }
+    ensures { OnOk result
+        (text.new.items ≡ text.old.items ++ range_lines (byte_of machine.now.state) ranges.now) }
 {
     for range in ranges {
         let count = range.bytes.len() as u32;

@@ -11,7 +11,8 @@ use br_judge::Judge;
 use std::alloc::Global;
 
 /// The verdict of the judge of the firmware's trace language: `prefix D` with the number of events
-/// where it takes them all, or `departs D` with the number, from 1, of the first that it does not take.
+/// where it takes them all, or `departs D` with the number, from
+/// 1, of the first that it does not take.
 pub fn verdict(alloc: Global, events: &[Event]) -> Result<Vec<u8>, NoMemory>
     ensures { IfOk result (λ text. IsVerdict events.now text.items) }
 {
@@ -21,7 +22,7 @@ pub fn verdict(alloc: Global, events: &[Event]) -> Result<Vec<u8>, NoMemory>
     }
 }
 
-/// How many events come before the first that departs from the language. None where none departs.
+// How many events come before the first that departs from the language. None where none departs.
 fn first_departure(events: &[Event]) -> Option<usize>
     ensures none { IfNone result (Keeps events.now (length events.now)) }
     ensures some { IfSome result (λ n. DepartsAfter events.now n) }
@@ -37,7 +38,7 @@ fn first_departure(events: &[Event]) -> Option<usize>
     None
 }
 
-/// The line of a word, which ends in a space, and a number.
+// The line of a word, which ends in a space, and a number.
 fn number_line(alloc: Global, word: &str, number: usize) -> Result<Vec<u8>, NoMemory>
     ensures { IfOk result (λ text. text.items ≡ line (word.now ++ decimal number)) }
 {

@@ -20,7 +20,8 @@ not_picked true n e = cc
 not_picked false n e = refl
 
 -- the first function of a name has the number of the name
-pub function_at_number : (fs : List Func) (name : List ℕ) (n : ℕ) → number_named fs name ≡ Some n → function_named fs name ≡ slice_get fs n
+pub function_at_number : (fs : List Func) (name : List ℕ) (n : ℕ) → number_named fs name ≡ Some n
+    → function_named fs name ≡ slice_get fs n
 function_at_number fs name n e = find_at _ fs ∙ ap (slice_get fs) (picked _ _ n e)
 
 -- a number of a name is one of a function

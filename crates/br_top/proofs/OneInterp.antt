@@ -7,7 +7,8 @@ use Rattle.br_image.specs.Scripts.{interp_parts, IsInterpScript, IsScriptFault}
 use Rattle.br_compile.specs.declared.refusal.Refusal.{Refusal}
 use Rattle.br_compile.specs.Refusal.{Accepts, IsFaultOf}
 use Rattle.br_top.specs.declared.command.Command.TheVariants.{Interp}
-use Rattle.br_top.specs.declared.trouble.Reason.TheVariants.{TooLong, Source, Image, Script, TextTooLong, UnknownEntry, WrongCount, Trace}
+use Rattle.br_top.specs.declared.trouble.Reason.TheVariants.{TooLong, Source, Image, Script, TextTooLong}
+use Rattle.br_top.specs.declared.trouble.Reason.TheVariants.{UnknownEntry, WrongCount, Trace}
 use Rattle.br_top.specs.declared.trouble.Trouble.{Trouble}
 use Rattle.br_top.specs.declared.trouble.Trouble.TheVariants.{Memory, ReadFault, Refused}
 use Rattle.br_top.specs.Answers.{IsUnrefused}
@@ -30,7 +31,8 @@ text_refused bytes s at script (Refused (Trace fault)) refused = absurd refused
 text_refused bytes s at script (Refused (WrongCount count)) refused = absurd refused
 
 -- a script that cannot call a function of the program after it
-pub function_refused : (bytes : List ℕ) (s : InterpScript) (fs : List Func) → HoldsInterp bytes s fs → (trouble : Trouble) →
+pub function_refused : (bytes : List ℕ) (s : InterpScript) (fs : List Func) → HoldsInterp bytes s fs
+    → (trouble : Trouble) →
     IsRefusedFor (IsFunctionFault fs s) trouble → IsRefusedFor (Refuses Interp bytes) trouble
 function_refused bytes s fs holds Memory refused = tt
 function_refused bytes s fs holds ReadFault refused = refused
@@ -45,23 +47,28 @@ function_refused bytes s fs holds (Refused (WrongCount count)) refused = (s, fs,
 
 -- what holds of interp scripts and of source texts
 pub record Laws : Type 0 where
-  pub no_fault : (text : List ℕ) (s : InterpScript) (at : ℕ) (f : ScriptFault) → IsInterpScript text s at → IsScriptFault interp_parts text f → ⊥
-  pub one_script : (text : List ℕ) (s t : InterpScript) (at to : ℕ) → IsInterpScript text s at → IsInterpScript text t to → (s ≡ t) × (at ≡ to)
+  pub no_fault : (text : List ℕ) (s : InterpScript) (at : ℕ) (f : ScriptFault) → IsInterpScript text s at
+      → IsScriptFault interp_parts text f → ⊥
+  pub one_script : (text : List ℕ) (s t : InterpScript) (at to : ℕ) → IsInterpScript text s at
+      → IsInterpScript text t to → (s ≡ t) × (at ≡ to)
   pub no_text_fault : (text : List ℕ) (fs : List Func) (r : Refusal) → Accepts text fs → IsFaultOf text r → ⊥
   pub one_program : (text : List ℕ) (fs gs : List Func) → Accepts text fs → Accepts text gs → fs ≡ gs
 
 -- bytes hold one script and one program
-one_interp : Laws → (bytes : List ℕ) (s t : InterpScript) (fs gs : List Func) → HoldsInterp bytes s fs → HoldsInterp bytes t gs → (s ≡ t) × (fs ≡ gs)
+one_interp : Laws → (bytes : List ℕ) (s t : InterpScript) (fs gs : List Func) → HoldsInterp bytes s fs
+    → HoldsInterp bytes t gs → (s ≡ t) × (fs ≡ gs)
 one_interp laws bytes s t fs gs first second =
     let same = laws.one_script bytes s t first.at second.at first.scripted second.scripted in
     let other = subst (λ (at : ℕ). Accepts (drop at bytes) gs) (sym same.1) second.accepted in
     (same.0, laws.one_program (drop first.at bytes) fs gs first.accepted other)
 
 -- the text after the script is where another reading of the script ends
-same_place : Laws → (bytes : List ℕ) (s t : InterpScript) (at to : ℕ) → IsInterpScript bytes s at → IsInterpScript bytes t to → to ≡ at
+same_place : Laws → (bytes : List ℕ) (s t : InterpScript) (at to : ℕ) → IsInterpScript bytes s at
+    → IsInterpScript bytes t to → to ≡ at
 same_place laws bytes s t at to first second = let same = laws.one_script bytes s t at to first second in sym same.1
 
-pub interp_unrefused : Laws → (bytes text : List ℕ) → length bytes ≤ 16777216 → AddsInterp bytes text → IsUnrefused Interp bytes
+pub interp_unrefused : Laws → (bytes text : List ℕ) → length bytes ≤ 16777216 → AddsInterp bytes text
+    → IsUnrefused Interp bytes
 interp_unrefused laws bytes text short adds TooLong refused = omega (arith, short, refused)
 interp_unrefused laws bytes text short adds (Image fault) refused = refused
 interp_unrefused laws bytes text short adds (Trace fault) refused = refused

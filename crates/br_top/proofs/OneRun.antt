@@ -6,11 +6,13 @@ use Rattle.br_image.specs.declared.faults.ImageFault.{ImageFault}
 use Rattle.br_image.specs.declared.images.Image.{Image as ProgramImage}
 use Rattle.br_image.specs.declared.scripts.values.RunScript.{RunScript}
 use Rattle.br_image.specs.declared.scripts.values.ScriptFault.{ScriptFault}
-use Rattle.br_image.specs.Faults.{IsFault, ForFault}
+use Rattle.br_image.specs.Faults.{IsFault}
+use Rattle.br_base.specs.Faults.{IfFault}
 use Rattle.br_image.specs.Printed.{image_text}
 use Rattle.br_image.specs.Scripts.{run_parts, IsRunScript, IsScriptFault}
 use Rattle.br_top.specs.declared.command.Command.TheVariants.{Run}
-use Rattle.br_top.specs.declared.trouble.Reason.TheVariants.{TooLong, Source, Image, Script, TextTooLong, UnknownEntry, WrongCount, Trace}
+use Rattle.br_top.specs.declared.trouble.Reason.TheVariants.{TooLong, Source, Image, Script, TextTooLong}
+use Rattle.br_top.specs.declared.trouble.Reason.TheVariants.{UnknownEntry, WrongCount, Trace}
 use Rattle.br_top.specs.declared.trouble.Trouble.{Trouble}
 use Rattle.br_top.specs.declared.trouble.Trouble.TheVariants.{Memory, ReadFault, Refused}
 use Rattle.br_top.specs.Answers.{IsUnrefused}
@@ -20,7 +22,7 @@ use Rattle.br_top.specs.Troubles.{IsRefusedFor, trouble_of, image_reason}
 
 -- a fault of what follows a script
 pub image_refused : (bytes : List ℕ) (s : RunScript) (at : ℕ) → IsRunScript bytes s at → (cause : OrMemory ImageFault) →
-    ForFault cause (IsFault (drop at bytes)) → IsRefusedFor (Refuses Run bytes) (trouble_of image_reason cause)
+    IfFault cause (IsFault (drop at bytes)) → IsRefusedFor (Refuses Run bytes) (trouble_of image_reason cause)
 image_refused bytes s at script Wanting faulty = tt
 image_refused bytes s at script (Fault fault) faulty = (s, at, script, faulty)
 
@@ -40,13 +42,16 @@ entry_refused bytes s i holds (Refused (WrongCount count)) refused = (s, i, hold
 
 -- what holds of run scripts and of the texts of images
 pub record Laws : Type 0 where
-  pub no_fault : (text : List ℕ) (s : RunScript) (at : ℕ) (f : ScriptFault) → IsRunScript text s at → IsScriptFault run_parts text f → ⊥
-  pub one_script : (text : List ℕ) (s t : RunScript) (at to : ℕ) → IsRunScript text s at → IsRunScript text t to → (s ≡ t) × (at ≡ to)
+  pub no_fault : (text : List ℕ) (s : RunScript) (at : ℕ) (f : ScriptFault) → IsRunScript text s at
+      → IsScriptFault run_parts text f → ⊥
+  pub one_script : (text : List ℕ) (s t : RunScript) (at to : ℕ) → IsRunScript text s at → IsRunScript text t to
+      → (s ≡ t) × (at ≡ to)
   pub no_image_fault : (text : List ℕ) (i : ProgramImage) (f : ImageFault) → text ≡ image_text i → IsFault text f → ⊥
   pub one_image : (i j : ProgramImage) → image_text i ≡ image_text j → i ≡ j
 
 -- bytes hold one script and one image
-one_run : Laws → (bytes : List ℕ) (s t : RunScript) (i j : ProgramImage) → HoldsRun bytes s i → HoldsRun bytes t j → (s ≡ t) × (i ≡ j)
+one_run : Laws → (bytes : List ℕ) (s t : RunScript) (i j : ProgramImage) → HoldsRun bytes s i → HoldsRun bytes t j
+    → (s ≡ t) × (i ≡ j)
 one_run laws bytes s t i j first second =
     let same = laws.one_script bytes s t first.at second.at first.scripted second.scripted in
     (same.0, laws.one_image i j (sym first.read ∙ ap (λ at. drop at bytes) same.1 ∙ second.read))

@@ -1,17 +1,20 @@
 -- What is read to the end of known bytes.
-use Rattle.std.proofs.Common.{◌≡◌, ◌≤◌, ◌<◌, ℕ, List, [], ◌++◌, Option, None, Some, length, subst, refl, ap, sym, ◌∙◌, arith, inl, inr, length-append}
+use Rattle.std.proofs.Common.{◌≡◌, ◌≤◌, ◌<◌, ℕ, List, [], ◌++◌, Option, None, Some, length}
+use Rattle.std.proofs.Common.{subst, refl, ap, sym, ◌∙◌, arith, inl, inr, length-append}
 use Rattle.std.proofs.lemmas.List.{append-nil}
 use Rattle.std.specs.Prelude.{IsTrue}
 use Rattle.std.specs.Io.KnownBytes.{Consumes, IsAtEnd}
 use Rattle.br_top.specs.declared.command.Command.{Command}
-use Rattle.br_top.specs.declared.command.Command.TheVariants.{Compile, Print, List as Listing, Run, Interp, Firmware, Judge}
+use Rattle.br_top.specs.declared.command.Command.TheVariants.{Compile, Print, List as Listing}
+use Rattle.br_top.specs.declared.command.Command.TheVariants.{Run, Interp, Firmware, Judge}
 use Rattle.br_top.specs.declared.trouble.Reason.{Reason}
 use Rattle.br_top.specs.declared.trouble.Reason.TheVariants.{TooLong}
 use Rattle.br_top.specs.Commands.{Refuses, limit_of, reads_input}
 use Rattle.br_top.specs.Answers.{ReadsAll, ReadsRefused, IsUnrefused}
 
 -- what is read to the end of known bytes is those bytes
-all_read : (known after : Option (List ℕ)) (bytes all : List ℕ) → known ≡ Some all → Consumes known after bytes → IsAtEnd after → bytes ≡ all
+all_read : (known after : Option (List ℕ)) (bytes all : List ℕ) → known ≡ Some all → Consumes known after bytes
+    → IsAtEnd after → bytes ≡ all
 all_read None after bytes all is taken end = cc
 all_read (Some xs) None bytes all is taken end = absurd taken
 all_read (Some xs) (Some rest) bytes all is taken end =
@@ -20,7 +23,8 @@ all_read (Some xs) (Some rest) bytes all is taken end =
     cc
 
 -- a command that refuses something reads its input
-reads : (command : Command) (bytes : List ℕ) (reason : Reason) → Refuses command bytes reason → IsTrue (reads_input command)
+reads : (command : Command) (bytes : List ℕ) (reason : Reason) → Refuses command bytes reason
+    → IsTrue (reads_input command)
 reads Compile bytes reason refused = refl
 reads Print bytes reason refused = refl
 reads Listing bytes reason refused = refl
@@ -30,7 +34,8 @@ reads Firmware bytes reason refused = absurd refused
 reads Judge bytes reason refused = refl
 
 -- a command that reads its input refuses what is longer than its limit
-too_long : (command : Command) (bytes : List ℕ) → IsTrue (reads_input command) → limit_of command < length bytes → Refuses command bytes TooLong
+too_long : (command : Command) (bytes : List ℕ) → IsTrue (reads_input command) → limit_of command < length bytes
+    → Refuses command bytes TooLong
 too_long Compile bytes reads long = long
 too_long Print bytes reads long = long
 too_long Listing bytes reads long = long
@@ -47,7 +52,8 @@ refused-reads command known after bytes all reason is read refused unrefused =
     unrefused reason (subst (λ (xs : List ℕ). Refuses command xs reason) (sym same) refused)
 
 -- no more is read of known bytes than there are
-taken_fits : (known after : Option (List ℕ)) (bytes all : List ℕ) → known ≡ Some all → Consumes known after bytes → length bytes ≤ length all
+taken_fits : (known after : Option (List ℕ)) (bytes all : List ℕ) → known ≡ Some all → Consumes known after bytes
+    → length bytes ≤ length all
 taken_fits None after bytes all is taken = absurd (let no = is in cc)
 taken_fits (Some xs) None bytes all is taken = absurd taken
 taken_fits (Some xs) (Some rest) bytes all is taken =

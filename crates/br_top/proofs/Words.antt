@@ -1,14 +1,17 @@
 -- The words of commands.
-use Rattle.std.proofs.Common.{◌≡◌, ◌≤◌, ◌<◌, List, [], ◌∷◌, length, get_or, refl, sym, ◌∙◌, ap, arith, Option, Some, None}
+use Rattle.std.proofs.Common.{◌≡◌, ◌≤◌, ◌<◌, List, [], ◌∷◌, length, get_or}
+use Rattle.std.proofs.Common.{refl, sym, ◌∙◌, ap, arith, Option, Some, None}
 use Rattle.std.specs.Prelude.{ℕ, map, String, Bool, true, false, ◌&&◌, if◌then◌else◌}
 use Rattle.std.specs.Str.{bytes_eq}
 use Rattle.std.specs.declared.alloc.Global.{Global}
 use Rattle.br_top.specs.declared.command.Command.{Command}
-use Rattle.br_top.specs.declared.command.Command.TheVariants.{Compile, Print, List as Listing, Run, Interp, Firmware, Judge}
+use Rattle.br_top.specs.declared.command.Command.TheVariants.{Compile, Print, List as Listing}
+use Rattle.br_top.specs.declared.command.Command.TheVariants.{Run, Interp, Firmware, Judge}
 use Rattle.br_top.specs.Commands.{words_of, AreWordsOf}
 
 -- the image of a list of one element
-pub map-one : {X Y : Type 0} → (f : X → Y) (xs : List X) (x : X) (y : Y) → 1 ≤ length xs → length xs < 2 → x ≡ get_or xs 0 x → f x ≡ y → map f xs ≡ y ∷ []
+pub map-one : {X Y : Type 0} → (f : X → Y) (xs : List X) (x : X) (y : Y) → 1 ≤ length xs → length xs < 2
+    → x ≡ get_or xs 0 x → f x ≡ y → map f xs ≡ y ∷ []
 map-one f [] x y low high at e = absurd (omega arith)
 map-one f (w ∷ []) x y low high at e = cc
 map-one f (w ∷ v ∷ ws) x y low high at e = absurd (omega arith)

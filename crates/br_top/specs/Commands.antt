@@ -1,10 +1,11 @@
 -- The commands: their words, how much they read, what they make of it, and what they refuse.
-use Rattle.std.specs.Prelude.{ℕ, ◌≡◌, ◌<◌, List, [], ◌∷◌, length, codes, map, ⊤, String, Bool, true, false}
+use Rattle.std.specs.Prelude.{ℕ, ◌≡◌, ◌<◌, List, [], ◌∷◌, length}
+use Rattle.std.specs.Prelude.{codes, map, ⊤, String, Bool, true, false}
 use Rattle.std.specs.declared.alloc.Global.{Global}
 use Rattle.std.specs.String.{string_bytes}
 use Rattle.br_bytes.specs.declared.run.Event.{Event}
 use Rattle.br_sexpr.specs.declared.tree.Tree.{Tree}
-use Rattle.br_sexpr.specs.Reads.{Reads}
+use Rattle.br_sexpr.specs.Reads.{most_bytes, Reads}
 use Rattle.br_sexpr.specs.Canonical.{canonical}
 use Rattle.br_syntax.specs.declared.program.Func.{Func}
 use Rattle.br_syntax.specs.Denotes.{Denotes}
@@ -20,7 +21,8 @@ use Rattle.br_compile.specs.declared.refusal.Refusal.TheVariants.{InputTooLong, 
 use Rattle.br_compile.specs.Refusal.{Accepts, IsFaultOf}
 use Rattle.br_compile.specs.Implements.{Implements}
 use Rattle.br_top.specs.declared.command.Command.{Command}
-use Rattle.br_top.specs.declared.command.Command.TheVariants.{Compile, Print, List as Listing, Run, Interp, Firmware, Judge}
+use Rattle.br_top.specs.declared.command.Command.TheVariants.{Compile, Print, List as Listing}
+use Rattle.br_top.specs.declared.command.Command.TheVariants.{Run, Interp, Firmware, Judge}
 use Rattle.br_top.specs.declared.trouble.Reason.{Reason}
 use Rattle.br_top.specs.declared.trouble.Reason.TheVariants.{TooLong, Source, Image, Trace}
 use Rattle.br_top.specs.Scripted.{AddsRun, AddsInterp, RefusesRun, RefusesInterp}
@@ -53,15 +55,19 @@ reads_input Interp = true
 reads_input Firmware = false
 reads_input Judge = true
 
+-- the most bytes of any other input than a source text, a script and a text after it together
+abbrev pub most_other_bytes : ℕ
+most_other_bytes = 16777216
+
 -- how many bytes of input a command reads at most, which is 0 where it does not read it
 abbrev pub limit_of : Command → ℕ
-limit_of Compile = 1048576
-limit_of Print = 1048576
-limit_of Listing = 16777216
-limit_of Run = 16777216
-limit_of Interp = 16777216
+limit_of Compile = most_bytes
+limit_of Print = most_bytes
+limit_of Listing = most_other_bytes
+limit_of Run = most_other_bytes
+limit_of Interp = most_other_bytes
 limit_of Firmware = 0
-limit_of Judge = 16777216
+limit_of Judge = most_other_bytes
 
 -- the text of an image that implements the program of these bytes, which are an accepted text
 pub record AddsImage (bytes text : List ℕ) : Type 0 where
@@ -116,7 +122,8 @@ IsOfShape (Text fault) = ⊤
 IsOfShape (Shape fault) = ⊤
 IsOfShape (Names fault) = ⊥
 
--- the command refuses these bytes, for this reason; one that does not read its input refuses nothing
+-- the command refuses these bytes, for this reason; one that
+-- does not read its input refuses nothing
 abbrev pub Refuses : Command → List ℕ → Reason → Type 0
 Refuses Firmware bytes reason = ⊥
 Refuses command bytes TooLong = limit_of command < length bytes

@@ -7,7 +7,8 @@ error_line text = codes "brc: " ++ text ++ 10 ∷ []
 
 -- for words that are no command
 abbrev pub usage_line : List ℕ
-usage_line = error_line (codes "usage: compile, print, list, run, interp, firmware, judge, sim or gen N")
+usage_line =
+    error_line (codes "usage: compile, print, list, run, interp, firmware, judge, sim or gen N")
 
 -- where the input failed
 abbrev pub read_fault_line : List ℕ

@@ -3,21 +3,31 @@ use Rattle.std.specs.Prelude.{ℕ, List, [], ◌∷◌, ◌++◌, codes}
 use Rattle.std.specs.List.{flat_map}
 use Rattle.std.specs.Fmt.{decimal}
 use Rattle.br_sexpr.specs.declared.tree.TextFault.{TextFault}
-use Rattle.br_sexpr.specs.declared.tree.TextFault.TheVariants.{BadByte, BadNumber, ExtraClose, Unclosed, TooDeep}
+use Rattle.br_sexpr.specs.declared.tree.TextFault.TheVariants.{BadByte, BadNumber}
+use Rattle.br_sexpr.specs.declared.tree.TextFault.TheVariants.{ExtraClose, Unclosed, TooDeep}
 use Rattle.br_syntax.specs.declared.faults.ShapeFault.{ShapeFault}
-use Rattle.br_syntax.specs.declared.faults.ShapeFault.TheVariants.{BadForm, BadSize, BadByteValue, TooMany, Repeated}
+use Rattle.br_syntax.specs.declared.faults.ShapeFault.TheVariants.{BadForm, BadSize, BadByteValue}
+use Rattle.br_syntax.specs.declared.faults.ShapeFault.TheVariants.{TooMany, Repeated}
 use Rattle.br_measure.specs.declared.faults.NameFault.{NameFault}
-use Rattle.br_measure.specs.declared.faults.NameFault.TheVariants.{DuplicateFunction, UnknownFunction, WrongArguments, WrongResults, UnknownAction, TooLarge, Recursion, StackTooDeep}
+use Rattle.br_measure.specs.declared.faults.NameFault.TheVariants.{DuplicateFunction}
+use Rattle.br_measure.specs.declared.faults.NameFault.TheVariants.{UnknownFunction}
+use Rattle.br_measure.specs.declared.faults.NameFault.TheVariants.{WrongArguments, WrongResults}
+use Rattle.br_measure.specs.declared.faults.NameFault.TheVariants.{UnknownAction, TooLarge}
+use Rattle.br_measure.specs.declared.faults.NameFault.TheVariants.{Recursion, StackTooDeep}
 use Rattle.br_compile.specs.declared.refusal.Refusal.{Refusal}
 use Rattle.br_compile.specs.declared.refusal.Refusal.TheVariants.{InputTooLong, Text, Shape, Names}
 use Rattle.br_image.specs.declared.faults.ImageFault.{ImageFault}
-use Rattle.br_image.specs.declared.faults.ImageFault.TheVariants.{BadLine, BadOrder, BadOffset, Truncated}
+use Rattle.br_image.specs.declared.faults.ImageFault.TheVariants.{BadLine, BadOrder}
+use Rattle.br_image.specs.declared.faults.ImageFault.TheVariants.{BadOffset, Truncated}
 use Rattle.br_image.specs.declared.scripts.values.ScriptFault.{ScriptFault}
-use Rattle.br_image.specs.declared.scripts.values.ScriptFault.TheVariants.{BadScriptLine, ScriptEnds}
+use Rattle.br_image.specs.declared.scripts.values.ScriptFault.TheVariants.{BadScriptLine}
+use Rattle.br_image.specs.declared.scripts.values.ScriptFault.TheVariants.{ScriptEnds}
 use Rattle.br_image.specs.declared.traces.reading.TraceFault.{TraceFault}
 use Rattle.br_image.specs.declared.traces.reading.TraceFault.TheVariants.{BadTraceLine}
 use Rattle.br_top.specs.declared.trouble.Reason.{Reason}
-use Rattle.br_top.specs.declared.trouble.Reason.TheVariants.{TooLong, Source, Image, Script, TextTooLong, UnknownEntry, WrongCount, Trace}
+use Rattle.br_top.specs.declared.trouble.Reason.TheVariants.{TooLong, Source, Image, Script}
+use Rattle.br_top.specs.declared.trouble.Reason.TheVariants.{TextTooLong, UnknownEntry}
+use Rattle.br_top.specs.declared.trouble.Reason.TheVariants.{WrongCount, Trace}
 use Rattle.br_top.specs.Lines.{error_line}
 
 -- each number in decimal, after one space
@@ -50,7 +60,8 @@ name_fault_line (WrongResults at) = refused_line (codes "WrongResults") (at ∷ 
 name_fault_line (UnknownAction at) = refused_line (codes "UnknownAction") (at ∷ [])
 name_fault_line (TooLarge bulk) = refused_line (codes "TooLarge") (bulk ∷ [])
 name_fault_line (Recursion function) = refused_line (codes "Recursion") (function ∷ [])
-name_fault_line (StackTooDeep function measure) = refused_line (codes "StackTooDeep") (function ∷ measure ∷ [])
+name_fault_line (StackTooDeep function measure) =
+    refused_line (codes "StackTooDeep") (function ∷ measure ∷ [])
 
 abbrev pub refusal_line : Refusal → List ℕ
 refusal_line InputTooLong = refused_line (codes "InputTooLong") []

@@ -8,13 +8,16 @@ use Rattle.br_image.specs.declared.scripts.values.RunScript.{RunScript}
 use Rattle.br_image.specs.declared.scripts.values.InterpScript.{InterpScript}
 use Rattle.br_image.specs.Printed.{image_text}
 use Rattle.br_image.specs.Faults.{IsFault}
-use Rattle.br_image.specs.Scripts.{run_parts, interp_parts, IsRunScript, IsInterpScript, IsScriptFault}
-use Rattle.br_compile.specs.Refusal.{most_bytes, Accepts, IsFaultOf}
+use Rattle.br_image.specs.Scripts.{run_parts, interp_parts, IsRunScript}
+use Rattle.br_image.specs.Scripts.{IsInterpScript, IsScriptFault}
+use Rattle.br_sexpr.specs.Reads.{most_bytes}
+use Rattle.br_compile.specs.Refusal.{Accepts, IsFaultOf}
 use Rattle.br_texts.specs.Entries.{entry_named}
 use Rattle.br_texts.specs.RunText.{IsRunText}
 use Rattle.br_texts.specs.InterpText.{interp_text}
 use Rattle.br_top.specs.declared.trouble.Reason.{Reason}
-use Rattle.br_top.specs.declared.trouble.Reason.TheVariants.{Source, Image, Script, TextTooLong, UnknownEntry, WrongCount}
+use Rattle.br_top.specs.declared.trouble.Reason.TheVariants.{Source, Image, Script, TextTooLong}
+use Rattle.br_top.specs.declared.trouble.Reason.TheVariants.{UnknownEntry, WrongCount}
 
 -- ---- the run of an image
 
@@ -39,17 +42,21 @@ pub record AddsRun (bytes text : List ℕ) : Type 0 where
 abbrev pub IsEntryFault : ProgramImage → RunScript → Reason → Type 0
 IsEntryFault image script UnknownEntry = entry_named image.entries script.call ≡ None
 IsEntryFault image script (WrongCount count) =
-    (entry : Entry) × (entry_named image.entries script.call ≡ Some entry) × (count ≡ entry.args) × (length script.args ≢ count)
+    (entry : Entry) × (entry_named image.entries script.call ≡ Some entry) × (count ≡ entry.args)
+    × (length script.args ≢ count)
 IsEntryFault image script other = ⊥
 
 -- why the bytes are refused: for the script, else for the image, else for the entry
 abbrev pub RefusesRun : List ℕ → Reason → Type 0
 RefusesRun bytes (Script fault) = IsScriptFault run_parts bytes fault
-RefusesRun bytes (Image fault) = (script : RunScript) × (at : ℕ) × IsRunScript bytes script at × IsFault (drop at bytes) fault
+RefusesRun bytes (Image fault) =
+    (script : RunScript) × (at : ℕ) × IsRunScript bytes script at × IsFault (drop at bytes) fault
 RefusesRun bytes UnknownEntry =
-    (script : RunScript) × (image : ProgramImage) × HoldsRun bytes script image × IsEntryFault image script UnknownEntry
+    (script : RunScript) × (image : ProgramImage) × HoldsRun bytes script image
+    × IsEntryFault image script UnknownEntry
 RefusesRun bytes (WrongCount count) =
-    (script : RunScript) × (image : ProgramImage) × HoldsRun bytes script image × IsEntryFault image script (WrongCount count)
+    (script : RunScript) × (image : ProgramImage) × HoldsRun bytes script image
+    × IsEntryFault image script (WrongCount count)
 RefusesRun bytes other = ⊥
 
 -- ---- the run of a source program
@@ -88,11 +95,15 @@ IsFunctionFault program script other = ⊥
 abbrev pub RefusesInterp : List ℕ → Reason → Type 0
 RefusesInterp bytes (Script fault) = IsScriptFault interp_parts bytes fault
 RefusesInterp bytes TextTooLong =
-    (script : InterpScript) × (at : ℕ) × IsInterpScript bytes script at × RefusesText (drop at bytes) TextTooLong
+    (script : InterpScript) × (at : ℕ) × IsInterpScript bytes script at
+    × RefusesText (drop at bytes) TextTooLong
 RefusesInterp bytes (Source refusal) =
-    (script : InterpScript) × (at : ℕ) × IsInterpScript bytes script at × RefusesText (drop at bytes) (Source refusal)
+    (script : InterpScript) × (at : ℕ) × IsInterpScript bytes script at
+    × RefusesText (drop at bytes) (Source refusal)
 RefusesInterp bytes UnknownEntry =
-    (script : InterpScript) × (program : List Func) × HoldsInterp bytes script program × IsFunctionFault program script UnknownEntry
+    (script : InterpScript) × (program : List Func) × HoldsInterp bytes script program
+    × IsFunctionFault program script UnknownEntry
 RefusesInterp bytes (WrongCount count) =
-    (script : InterpScript) × (program : List Func) × HoldsInterp bytes script program × IsFunctionFault program script (WrongCount count)
+    (script : InterpScript) × (program : List Func) × HoldsInterp bytes script program
+    × IsFunctionFault program script (WrongCount count)
 RefusesInterp bytes other = ⊥

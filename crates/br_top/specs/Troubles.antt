@@ -1,7 +1,8 @@
 -- What stands for each reason that a part of the work gives.
 use Rattle.std.specs.Prelude.{⊤}
 use Rattle.br_base.specs.declared.source.ReadEnd.{ReadEnd}
-use Rattle.br_base.specs.declared.source.ReadEnd.TheVariants.{Memory as NoRoom, Failed, TooLong as TooMuch}
+use Rattle.br_base.specs.declared.source.ReadEnd.TheVariants.{Memory as NoRoom, Failed}
+use Rattle.br_base.specs.declared.source.ReadEnd.TheVariants.{TooLong as TooMuch}
 use Rattle.br_base.specs.declared.failure.OrMemory.{OrMemory}
 use Rattle.br_base.specs.declared.failure.OrMemory.TheVariants.{Memory as Wanting, Fault}
 use Rattle.br_sexpr.specs.declared.tree.TextFault.{TextFault}
@@ -48,7 +49,8 @@ script_reason fault = Script fault
 abbrev pub trace_reason : TraceFault → Reason
 trace_reason fault = Trace fault
 
--- work that reads nothing stopped for want of memory, or it refuses for a reason of which this holds
+-- work that reads nothing stopped for want of memory, or it
+-- refuses for a reason of which this holds
 abbrev pub IsRefusedFor : (Reason → Type 0) → Trouble → Type 0
 IsRefusedFor P Memory = ⊤
 IsRefusedFor P ReadFault = ⊥

@@ -3,6 +3,8 @@
 ghost use Rattle.std.specs.Prelude.{◌≡◌, ◌↔◌, IsTrue, MatchOption, string_bytes};
 ghost use Rattle.br_top.specs.Commands.{AreWordsOf, AreWords, limit_of, reads_input};
 
+use br_sexpr::MOST_BYTES;
+
 /// What the program can be asked to do.
 #[derive(Clone, Copy, Debug, PartialEq, Eq)]
 pub enum Command {
@@ -51,19 +53,16 @@ pub(crate) fn reads_input(command: Command) -> bool
     !matches!(command, Command::Firmware)
 }
 
-/// How many bytes a source text has at most.
-pub(crate) const SOURCE_LIMIT: usize = 1_048_576;
-
-/// How many bytes any other input has at most, a script and a text after it together.
-const OTHER_LIMIT: usize = 16_777_216;
+// The most bytes of any other input than a source text, a script and a text after it together.
+const MOST_OTHER_BYTES: usize = 16_777_216;
 
 /// How many bytes of input a command reads at most, which is 0 where it does not read it.
 pub(crate) fn limit_of(command: Command) -> usize
     ensures { result ≡ limit_of command }
 {
     match command {
-        Command::Compile | Command::Print => SOURCE_LIMIT,
-        Command::List | Command::Run | Command::Interp | Command::Judge => OTHER_LIMIT,
+        Command::Compile | Command::Print => MOST_BYTES,
+        Command::List | Command::Run | Command::Interp | Command::Judge => MOST_OTHER_BYTES,
         Command::Firmware => 0,
     }
 }

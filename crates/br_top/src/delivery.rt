@@ -11,7 +11,8 @@ use br_base::{Sink, Status, write_all};
 
 /// Writes the line of a status that stays as it is where the line cannot be written.
 pub(crate) fn tell<E: Sink>(err: &mut E, line: &[u8])
-    ensures told { Tells (E.faults err.old) (E.faults err.new) (E.held err.old) (E.held err.new) line.now }
+    ensures told { Tells (E.faults err.old) (E.faults err.new) (E.held err.old)
+        (E.held err.new) line.now }
     ensures count { E.faults err.old ≤ E.faults err.new }
 {
     let _ = write_all(err, line);
@@ -36,7 +37,8 @@ pub(crate) fn answer_text<O: Sink, E: Sink>(out: &mut O, err: &mut E, text: &[u8
         × (O.faults out.new ≡ O.faults out.old) × (err.new ≡ err.old))
         ⊎ ((result ≡ Status.WriteFault) × Rose (O.faults out.old) (O.faults out.new)
         × AppendsSome (O.held out.old) (O.held out.new) text.now
-        × Tells (E.faults err.old) (E.faults err.new) (E.held err.old) (E.held err.new) write_fault_line) }
+        × Tells (E.faults err.old) (E.faults err.new) (E.held err.old) (E.held err.new)
+        write_fault_line) }
     ensures out_count { O.faults out.old ≤ O.faults out.new }
     ensures err_count { E.faults err.old ≤ E.faults err.new }
 {

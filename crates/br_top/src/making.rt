@@ -1,6 +1,7 @@
 // Making texts: from the bytes of the input to the whole text of the answer.
 
-ghost use Rattle.std.specs.Prelude.{◌≡◌, ◌≤◌, ◌+◌, ℕ, List, length, IfOk, OnOk, IfErr, Err, IsErrOf, IsTrue, IsFalse};
+ghost use Rattle.std.specs.Prelude.{◌≡◌, ◌≤◌, ◌+◌, ℕ, List, length, IfOk, OnOk};
+ghost use Rattle.std.specs.Prelude.{IfErr, Err, IsErrOf, IsTrue, IsFalse};
 ghost use Rattle.br_base.specs.Ends.{Rose, ConsumesAtMost, ConsumesMany};
 ghost use Rattle.br_top.specs.declared.trouble.Reason.{Reason};
 ghost use Rattle.br_top.specs.Commands.{Adds, AddsFirmware, Refuses, limit_of, reads_input};
@@ -26,12 +27,17 @@ pub(crate) fn made_text<S: Source>(
     command: Command,
     input: &mut S,
 ) -> Result<Vec<u8>, Trouble>
-    ensures made { IfOk result (λ text. (bytes : List ℕ) × ReadsAll command (S.left input.old) (S.left input.new) bytes
+    ensures made { IfOk result
+        (λ text. (bytes : List ℕ) × ReadsAll command (S.left input.old) (S.left input.new) bytes
         × IsUnrefused command bytes × Adds command bytes text.items) }
-    ensures refused { (reason : Reason) → result ≡ Err (Trouble.Refused reason) → ReadsRefused command (S.left input.old) (S.left input.new) reason }
-    ensures failed { IsErrOf result Trouble.ReadFault → Rose (S.faults input.old) (S.faults input.new)
-        × IsTrue (reads_input command) × ConsumesAtMost (S.left input.old) (S.left input.new) (limit_of command) }
-    ensures memory { IsErrOf result Trouble.Memory → ConsumesAtMost (S.left input.old) (S.left input.new) (limit_of command + 1) }
+    ensures refused { (reason : Reason) → result ≡ Err (Trouble.Refused reason) →
+        ReadsRefused command (S.left input.old) (S.left input.new) reason }
+    ensures failed { IsErrOf result Trouble.ReadFault →
+        Rose (S.faults input.old) (S.faults input.new)
+        × IsTrue (reads_input command)
+        × ConsumesAtMost (S.left input.old) (S.left input.new) (limit_of command) }
+    ensures memory { IsErrOf result Trouble.Memory →
+        ConsumesAtMost (S.left input.old) (S.left input.new) (limit_of command + 1) }
     ensures unread { IsFalse (reads_input command) → input.new ≡ input.old }
     ensures sound { OnOk result (S.faults input.new ≡ S.faults input.old) }
     ensures count { S.faults input.old ≤ S.faults input.new }
@@ -40,18 +46,21 @@ pub(crate) fn made_text<S: Source>(
     text_of(alloc, command, &bytes)
 }
 
-/// All bytes of a command's input, and none for a command that does not read it.
+// All bytes of a command's input, and none for a command that does not read it.
 fn input_bytes<S: Source>(
     alloc: Global,
     command: Command,
     input: &mut S,
 ) -> Result<Vec<u8>, ReadEnd>
-    ensures read { IfOk result (λ bytes. ReadsAll command (S.left input.old) (S.left input.new) bytes.items) }
+    ensures read { IfOk result
+        (λ bytes. ReadsAll command (S.left input.old) (S.left input.new) bytes.items) }
     ensures too_long { IsErrOf result ReadEnd.TooLong → IsTrue (reads_input command)
         × ConsumesMany (S.left input.old) (S.left input.new) (limit_of command + 1) }
     ensures failed { IsErrOf result ReadEnd.Failed → Rose (S.faults input.old) (S.faults input.new)
-        × IsTrue (reads_input command) × ConsumesAtMost (S.left input.old) (S.left input.new) (limit_of command) }
-    ensures memory { IsErrOf result ReadEnd.Memory → ConsumesAtMost (S.left input.old) (S.left input.new) (limit_of command + 1) }
+        × IsTrue (reads_input command)
+        × ConsumesAtMost (S.left input.old) (S.left input.new) (limit_of command) }
+    ensures memory { IsErrOf result ReadEnd.Memory →
+        ConsumesAtMost (S.left input.old) (S.left input.new) (limit_of command + 1) }
     ensures unread { IsFalse (reads_input command) → input.new ≡ input.old }
     ensures sound { OnOk result (S.faults input.new ≡ S.faults input.old) }
     ensures count { S.faults input.old ≤ S.faults input.new }
@@ -62,7 +71,7 @@ fn input_bytes<S: Source>(
     read_all(alloc, input, limit_of(command))
 }
 
-/// The text that a command makes of an input of these bytes.
+// The text that a command makes of an input of these bytes.
 fn text_of(alloc: Global, command: Command, bytes: &[u8]) -> Result<Vec<u8>, Trouble>
     requires { length bytes.now ≤ limit_of command }
     ensures made { IfOk result (λ text. Adds command bytes.now text.items) }
@@ -80,7 +89,7 @@ fn text_of(alloc: Global, command: Command, bytes: &[u8]) -> Result<Vec<u8>, Tro
     }
 }
 
-/// The text of the image of a source text.
+// The text of the image of a source text.
 fn image_text(alloc: Global, bytes: &[u8]) -> Result<Vec<u8>, Trouble>
     requires { length bytes.now ≤ limit_of Command.Compile }
     ensures made { IfOk result (λ text. Adds Command.Compile bytes.now text.items) }
@@ -91,7 +100,7 @@ fn image_text(alloc: Global, bytes: &[u8]) -> Result<Vec<u8>, Trouble>
     Ok(br_image::print(alloc, &image)?)
 }
 
-/// The canonical text of the trees of a source text.
+// The canonical text of the trees of a source text.
 fn canonical_text(alloc: Global, bytes: &[u8]) -> Result<Vec<u8>, Trouble>
     requires { length bytes.now ≤ limit_of Command.Print }
     ensures made { IfOk result (λ text. Adds Command.Print bytes.now text.items) }
@@ -104,7 +113,7 @@ fn canonical_text(alloc: Global, bytes: &[u8]) -> Result<Vec<u8>, Trouble>
     Ok(br_sexpr::print(alloc, trees.as_slice())?)
 }
 
-/// The listing of the image that a text is the text of.
+// The listing of the image that a text is the text of.
 fn listing_text(alloc: Global, bytes: &[u8]) -> Result<Vec<u8>, Trouble>
     requires { length bytes.now ≤ limit_of Command.List }
     ensures made { IfOk result (λ text. Adds Command.List bytes.now text.items) }
@@ -115,7 +124,7 @@ fn listing_text(alloc: Global, bytes: &[u8]) -> Result<Vec<u8>, Trouble>
     Ok(br_listing::list(alloc, &image)?)
 }
 
-/// The canonical text of the firmware.
+// The canonical text of the firmware.
 fn firmware_text(alloc: Global) -> Result<Vec<u8>, NoMemory>
     ensures { IfOk result (λ text. AddsFirmware text.items) }
 {
@@ -124,7 +133,7 @@ fn firmware_text(alloc: Global) -> Result<Vec<u8>, NoMemory>
     br_sexpr::print(alloc, functions.as_slice())
 }
 
-/// The verdict on the events that a trace text tells.
+// The verdict on the events that a trace text tells.
 fn verdict_text(alloc: Global, bytes: &[u8]) -> Result<Vec<u8>, Trouble>
     requires { length bytes.now ≤ limit_of Command.Judge }
     ensures made { IfOk result (λ text. Adds Command.Judge bytes.now text.items) }

@@ -2,7 +2,10 @@
 
 ghost use Rattle.std.specs.Prelude.{◌≡◌, ◌++◌, ◌∷◌, IfOk, OnOk};
 ghost use Rattle.std.specs.Fmt.{decimal};
-ghost use Rattle.br_top.specs.Refusals.{number_fields, refused_line, text_fault_line, shape_fault_line, name_fault_line, refusal_line, image_fault_line, script_fault_line, trace_fault_line, reason_line};
+ghost use Rattle.br_top.specs.Refusals.{number_fields, refused_line, text_fault_line};
+ghost use Rattle.br_top.specs.Refusals.{shape_fault_line, name_fault_line, refusal_line};
+ghost use Rattle.br_top.specs.Refusals.{image_fault_line, script_fault_line};
+ghost use Rattle.br_top.specs.Refusals.{trace_fault_line, reason_line};
 
 use crate::trouble::Reason;
 use br_base::NoMemory;
@@ -109,7 +112,7 @@ fn trace_fault_line(alloc: Global, fault: TraceFault) -> Result<Vec<u8>, NoMemor
     }
 }
 
-/// The line for a refusal of this kind with these numbers.
+// The line for a refusal of this kind with these numbers.
 fn refused_line(alloc: Global, kind: &str, numbers: &[u32]) -> Result<Vec<u8>, NoMemory>
     ensures { IfOk result (λ line. line.items ≡ refused_line kind.now numbers.now) }
 {
@@ -121,7 +124,7 @@ fn refused_line(alloc: Global, kind: &str, numbers: &[u32]) -> Result<Vec<u8>, N
     Ok(line)
 }
 
-/// Adds each number in decimal, after one space.
+// Adds each number in decimal, after one space.
 fn push_numbers(alloc: Global, line: &mut Vec<u8>, numbers: &[u32]) -> Result<(), NoMemory>
     ensures { OnOk result (line.new.items ≡ line.old.items ++ number_fields numbers.now) }
 {

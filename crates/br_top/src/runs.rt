@@ -31,7 +31,7 @@ pub(crate) fn run_output(alloc: Global, bytes: &[u8]) -> Result<Vec<u8>, Trouble
     Ok(run_text(alloc, &script, &image, entry)?)
 }
 
-/// The entry that a script calls, with as many arguments as it takes.
+// The entry that a script calls, with as many arguments as it takes.
 fn called_entry<'a>(image: &'a Image, script: &RunScript) -> Result<&'a Entry, Trouble>
     ensures named { IfOk result (λ e. entry_named image.now.entries script.now.call ≡ Some e.now) }
     ensures counted { IfOk result (λ e. length script.now.args ≡ e.now.args) }
@@ -47,9 +47,10 @@ fn called_entry<'a>(image: &'a Image, script: &RunScript) -> Result<&'a Entry, T
     Err(Trouble::Refused(Reason::WrongCount(entry.args)))
 }
 
-/// What a run adds a text for is not refused.
+// What a run adds a text for is not refused.
 fn runs_are_unrefused()
-    ensures { (bytes text : List ℕ) → length bytes ≤ limit_of Command.Run → AddsRun bytes text → IsUnrefused Command.Run bytes }
+    ensures { (bytes text : List ℕ) → length bytes ≤ limit_of Command.Run → AddsRun bytes text →
+        IsUnrefused Command.Run bytes }
 {
     one_run_script_or_one_fault();
     one_image_or_one_fault();

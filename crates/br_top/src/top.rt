@@ -9,7 +9,8 @@ ghost use Rattle.br_top.specs.declared.trouble.Reason.{Reason};
 ghost use Rattle.br_top.specs.Commands.{AreWords, AreWordsOf, Refuses, reads_input};
 ghost use Rattle.br_top.specs.Lines.{usage_line, read_fault_line, write_fault_line, no_memory_line};
 ghost use Rattle.br_top.specs.Refusals.{reason_line};
-ghost use Rattle.br_top.specs.Answers.{IsDueText, IsDueLine, IsUnrefused, FailsWithin, StopsWithin, WritesGoodImage};
+ghost use Rattle.br_top.specs.Answers.{IsDueText, IsDueLine, IsUnrefused};
+ghost use Rattle.br_top.specs.Answers.{FailsWithin, StopsWithin, WritesGoodImage};
 ghost use Rattle.br_top.specs.Reports.{Tells};
 
 use crate::command::command_of;
@@ -43,8 +44,8 @@ pub fn tool<S: Source, O: Sink, E: Sink>(
         × (O.faults out.new ≡ O.faults out.old)
         × (err.new ≡ err.old) }
 
-    // Where the text that was read stands for the firmware, no run of the image that was written ever
-    // leaves the firmware's trace language, and none traps.
+    // Where the text that was read stands for the firmware, no run of the image that was written
+    // ever leaves the firmware's trace language, and none traps.
     ensures lightbulb { result ≡ Status.Done → AreWordsOf words.now Compile →
         WritesGoodImage (S.left input.old) (S.left input.new) (O.held out.old) (O.held out.new) }
 
@@ -61,13 +62,15 @@ pub fn tool<S: Source, O: Sink, E: Sink>(
         × Appends (E.held err.old) (E.held err.new) usage_line
         × (out.new ≡ out.old) }
     ensures unread { ¬ AreWords words.now → input.new ≡ input.old }
-    ensures left_alone { (command : Command) → AreWordsOf words.now command → IsFalse (reads_input command) → input.new ≡ input.old }
+    ensures left_alone { (command : Command) → AreWordsOf words.now command →
+        IsFalse (reads_input command) → input.new ≡ input.old }
 
     // The input failed, and nothing was read after that.
     ensures read_fault { result ≡ Status.ReadFault →
         FailsWithin words.now (S.left input.old) (S.left input.new)
         × Rose (S.faults input.old) (S.faults input.new)
-        × Tells (E.faults err.old) (E.faults err.new) (E.held err.old) (E.held err.new) read_fault_line
+        × Tells (E.faults err.old) (E.faults err.new) (E.held err.old) (E.held err.new)
+        read_fault_line
         × (out.new ≡ out.old) }
 
     // The output failed at the text that is due, or standard error at the line of a refusal or at
@@ -78,9 +81,11 @@ pub fn tool<S: Source, O: Sink, E: Sink>(
         × (S.faults input.new ≡ S.faults input.old)
         × Rose (O.faults out.old) (O.faults out.new)
         × AppendsSome (O.held out.old) (O.held out.new) text
-        × Tells (E.faults err.old) (E.faults err.new) (E.held err.old) (E.held err.new) write_fault_line)
+        × Tells (E.faults err.old) (E.faults err.new) (E.held err.old) (E.held err.new)
+        write_fault_line)
         ⊎ ((line : List ℕ)
-        × (IsDueLine words.now (S.left input.old) (S.left input.new) line ⊎ (¬ AreWords words.now × (line ≡ usage_line)))
+        × (IsDueLine words.now (S.left input.old) (S.left input.new) line
+        ⊎ (¬ AreWords words.now × (line ≡ usage_line)))
         × Rose (E.faults err.old) (E.faults err.new)
         × AppendsSome (E.held err.old) (E.held err.new) line
         × (out.new ≡ out.old)) }
@@ -88,14 +93,17 @@ pub fn tool<S: Source, O: Sink, E: Sink>(
     // There was no memory.
     ensures no_memory { result ≡ Status.NoMemory →
         StopsWithin words.now (S.left input.old) (S.left input.new)
-        × Tells (E.faults err.old) (E.faults err.new) (E.held err.old) (E.held err.new) no_memory_line
+        × Tells (E.faults err.old) (E.faults err.new) (E.held err.old) (E.held err.new)
+        no_memory_line
         × (out.new ≡ out.old) }
 
     // Each answer comes wherever its cause is there and no end fails, but for want of memory.
     ensures other_words { ¬ AreWords words.now →
-        (result ≡ Status.Usage) ⊎ ((result ≡ Status.WriteFault) × Rose (E.faults err.old) (E.faults err.new)) }
+        (result ≡ Status.Usage)
+        ⊎ ((result ≡ Status.WriteFault) × Rose (E.faults err.old) (E.faults err.new)) }
     ensures refusable { (command : Command) (bytes : List ℕ) (reason : Reason) →
-        AreWordsOf words.now command → S.left input.old ≡ Some bytes → Refuses command bytes reason →
+        AreWordsOf words.now command → S.left input.old ≡ Some bytes →
+        Refuses command bytes reason →
         (result ≡ Status.Refused) ⊎ (result ≡ Status.NoMemory)
         ⊎ ((result ≡ Status.ReadFault) × Rose (S.faults input.old) (S.faults input.new))
         ⊎ ((result ≡ Status.WriteFault) × Rose (E.faults err.old) (E.faults err.new)) }
@@ -106,7 +114,8 @@ pub fn tool<S: Source, O: Sink, E: Sink>(
         ⊎ ((result ≡ Status.WriteFault) × Rose (O.faults out.old) (O.faults out.new)) }
 
     // What needs no input is done whatever the input is.
-    ensures needs_no_input { (command : Command) → AreWordsOf words.now command → IsFalse (reads_input command) →
+    ensures needs_no_input { (command : Command) → AreWordsOf words.now command →
+        IsFalse (reads_input command) →
         (result ≡ Status.Done) ⊎ (result ≡ Status.NoMemory)
         ⊎ ((result ≡ Status.WriteFault) × Rose (O.faults out.old) (O.faults out.new)) }
 
@@ -135,13 +144,15 @@ pub fn tool<S: Source, O: Sink, E: Sink>(
     }
 }
 
-/// Writes the line of a refusal.
+// Writes the line of a refusal.
 fn answer_refusal<E: Sink>(alloc: Global, err: &mut E, reason: &Reason) -> Status
-    ensures answered { ((result ≡ Status.Refused) × Appends (E.held err.old) (E.held err.new) (reason_line reason.now))
+    ensures answered { ((result ≡ Status.Refused)
+        × Appends (E.held err.old) (E.held err.new) (reason_line reason.now))
         ⊎ ((result ≡ Status.WriteFault) × Rose (E.faults err.old) (E.faults err.new)
         × AppendsSome (E.held err.old) (E.held err.new) (reason_line reason.now))
         ⊎ ((result ≡ Status.NoMemory)
-        × Tells (E.faults err.old) (E.faults err.new) (E.held err.old) (E.held err.new) no_memory_line) }
+        × Tells (E.faults err.old) (E.faults err.new) (E.held err.old) (E.held err.new)
+        no_memory_line) }
     ensures count { E.faults err.old ≤ E.faults err.new }
 {
     match reason_line(alloc, reason) {

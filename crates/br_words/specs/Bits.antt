@@ -9,7 +9,8 @@ field hi lo w = w / 2 ^ lo % 2 ^ (hi + 1 - lo)
 abbrev pub sign_extended : ℕ → ℕ → ℕ
 sign_extended n x = if nat_lt x (2 ^ (n - 1)) then x else x + (2 ^ 32 - 2 ^ n)
 
--- the signed number that n bits stand for: from 2 ^ (n - 1) up it is x - 2 ^ n; `negsuc k` is -(k + 1)
+-- the signed number that n bits stand for: from 2 ^ (n - 1) up
+-- it is x - 2 ^ n; `negsuc k` is -(k + 1)
 abbrev pub signed_bits : ℕ → ℕ → ℤ
 signed_bits n x = if nat_lt x (2 ^ (n - 1)) then pos x else negsuc (2 ^ n - 1 - x)
 

@@ -1,9 +1,12 @@
 -- Words, the numbers below 2 ^ 32, and the operations on them, by numbers alone. Those on a divisor
 -- of 0 and on shifts are RV32IM's (RISC-V unprivileged manual, chapter 2.4 and the M extension).
-use Rattle.std.specs.Prelude.{ℕ, ◌+◌, ◌-◌, ◌*◌, ◌/◌, ◌%◌, ◌^◌, ◌<◌, Bool, nat_lt, ◌==◌, if◌then◌else◌, ℤ, pos, negsuc, int_lt, bit_and, bit_or, bit_xor}
+use Rattle.std.specs.Prelude.{ℕ, ◌+◌, ◌-◌, ◌*◌, ◌/◌, ◌%◌, ◌^◌, ◌<◌, Bool, nat_lt, ◌==◌}
+use Rattle.std.specs.Prelude.{if◌then◌else◌, ℤ, pos, negsuc, int_lt, bit_and, bit_or, bit_xor}
 use Rattle.br_words.specs.Bits.{signed_bits, low_bits}
 use Rattle.br_words.specs.declared.operation.BinOp.{BinOp}
-use Rattle.br_words.specs.declared.operation.BinOp.TheVariants.{Add, Sub, Mul, Mulhuu, Divu, Remu, And, Or, Xor, Sru, Slu, Srs, Lts, Ltu, Eq}
+use Rattle.br_words.specs.declared.operation.BinOp.TheVariants.{Add, Sub, Mul, Mulhuu, Divu}
+use Rattle.br_words.specs.declared.operation.BinOp.TheVariants.{Remu, And, Or, Xor, Sru}
+use Rattle.br_words.specs.declared.operation.BinOp.TheVariants.{Slu, Srs, Lts, Ltu, Eq}
 
 -- a word is a number below 2 ^ 32
 abbrev pub IsWord : ℕ → Type 0

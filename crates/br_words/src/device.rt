@@ -4,7 +4,8 @@ ghost use Rattle.std.specs.Prelude.{◌≡◌};
 ghost use Rattle.br_words.specs.Device.{is_device_word};
 
 /// Whether a device is read or written at this address: a multiple of 4 from 0x10012000 up to
-/// 0x10013000 (GPIO), from there up to 0x10014000 (UART0), or from 0x10024000 up to 0x10025000 (SPI1).
+/// 0x10013000 (GPIO), from there up to 0x10014000 (UART0), or
+/// from 0x10024000 up to 0x10025000 (SPI1).
 pub fn device_word(a: u32) -> bool
     ensures { result ≡ is_device_word a }
 {

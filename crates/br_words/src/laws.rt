@@ -24,7 +24,8 @@ pub fn zero_divisors_are_rv32im()
 pub fn shifts_are_rv32im()
     ensures left { (a b : ℕ) → value_of_op BinOp.Slu a (b + 32) ≡ value_of_op BinOp.Slu a b }
     ensures right { (a b : ℕ) → value_of_op BinOp.Sru a (b + 32) ≡ value_of_op BinOp.Sru a b }
-    ensures signed_right { (a b : ℕ) → value_of_op BinOp.Srs a (b + 32) ≡ value_of_op BinOp.Srs a b }
+    ensures signed_right { (a b : ℕ) →
+        value_of_op BinOp.Srs a (b + 32) ≡ value_of_op BinOp.Srs a b }
 {}
 
 /// A word and the signed number that it stands for are one another's: two's complement.
@@ -37,7 +38,8 @@ pub fn signed_words_are_twos_complement()
 /// Sign extension keeps the signed number that `n` bits stand for, and `n` bits are the low bits of
 /// that number: two's complement at any width up to that of a word.
 pub fn sign_extension_keeps_numbers()
-    ensures same { (n x : ℕ) → 1 ≤ n → n ≤ 32 → x < 2 ^ n → signed (sign_extended n x) ≡ signed_bits n x }
+    ensures same { (n x : ℕ) → 1 ≤ n → n ≤ 32 → x < 2 ^ n →
+        signed (sign_extended n x) ≡ signed_bits n x }
     ensures word { (n x : ℕ) → 1 ≤ n → n ≤ 32 → x < 2 ^ n → IsWord (sign_extended n x) }
     ensures low { (n x : ℕ) → 1 ≤ n → x < 2 ^ n → low_bits n (signed_bits n x) ≡ x }
 {}

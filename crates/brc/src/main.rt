@@ -21,7 +21,7 @@ fn main(rt: HostRuntime) -> ExitCode {
     ExitCode::from(status.code())
 }
 
-/// The words of the command line, without the program's own name.
+// The words of the command line, without the program's own name.
 fn words(rt: &HostRuntime) -> Result<Vec<String>, NoMemory> {
     let words = env::args(rt).map_err(|_| NoMemory)?;
     Ok(words.skip(1).collect(rt.alloc())?)

@@ -1,19 +1,19 @@
-//! Reads a source text and prints its flat program after flattening, after each pass that makes it smaller
-//! and after words are passed in registers, and then what `lower` makes of it, one statement a line. For
-//! those who work on the passes: the program `brc` has no word for it.
+//! Reads a source text and prints its flat program after flattening, after each pass that makes it
+//! smaller and after words are passed in registers, and then what `lower` makes of it, one
+//! statement a line. For those who work on the passes: the program `brc` has no word for it.
 #![tactic(auto)]
 
 mod statements;
 
 use anyhow::{Result, bail};
 use br_base::{StdSource, read_all};
-use br_compile::{MOST_BYTES, lower};
+use br_compile::lower;
 use br_deadcode::remove_dead;
 use br_flatimp::FlatProgram;
 use br_flatten::flatten;
 use br_immediates::use_immediates;
 use br_measure::{Checked, check};
-use br_sexpr::read;
+use br_sexpr::{MOST_BYTES, read};
 use br_spill::pass_in_registers;
 use br_syntax::from_tree;
 use statements::write_function;

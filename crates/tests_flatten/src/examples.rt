@@ -1,12 +1,11 @@
 // The programs of the folder examples.
 
-use crate::shown::shown;
+use crate::shown::{show_alike, shown};
 use std::test::Fail;
 
 // The programs of the folder examples, without their comments.
 #[test]
 fn statements_of_examples(rt: HostRuntime) -> Result<(), Fail> {
-    let alloc = rt.alloc();
     let rows = [
         (
             "(fn setup () ()
@@ -33,8 +32,8 @@ fn statements_of_examples(rt: HostRuntime) -> Result<(), Fail> {
             () -> (0) of 3: lit 2 268509184; read 1 2; Sru 2 1 #18; And 0 2 #1;\n\
             (0) -> () of 3: lit 1 268509196; Slu 2 0 #21; write 1 2;\n\
             (0) -> () of 1: loop [ ] 0 [ Sub 0 0 #1; ]\n\
-            (0) -> () of 5: call () 0 (); lit 1 0; lit 4 1; loop [ ] 4 [ lit 3 1; Sub 1 3 1; \
-            call (2) 1 (); Or 3 1 2; call () 2 (3); call () 3 (0); ]\n",
+            (0) -> () of 5: lit 3 1; call () 0 (); lit 1 0; loop [ ] 3 [ Sub 1 3 1; \
+            call (2) 1 (); Or 4 1 2; call () 2 (4); call () 3 (0); ]\n",
         ),
         (
             "(fn main () ()
@@ -55,9 +54,9 @@ fn statements_of_examples(rt: HostRuntime) -> Result<(), Fail> {
                     (set from (add from 4))
                     (set n (sub n 1)))))
               (interact () MMIOWRITE 0x1001200C total))",
-            "(0 1) -> (2) of 5: lit 2 0; loop [ ] 1 [ lit 4 268509184; read 3 4; if 3 [ lit 1 0; ] \
-            [ load Four 4 0 0; Add 2 2 4; Add 0 0 #4; Sub 1 1 #1; ] ] \
-            lit 4 268509196; write 4 2;\n",
+            "(0 1) -> (2) of 6: lit 4 268509184; lit 2 0; loop [ ] 1 [ read 3 4; if 3 [ lit 1 0; ] \
+            [ load Four 5 0 0; Add 2 2 5; Add 0 0 #4; Sub 1 1 #1; ] ] \
+            lit 5 268509196; write 5 2;\n",
         ),
         (
             "(fn operations (a b) (all)
@@ -117,14 +116,7 @@ fn statements_of_examples(rt: HostRuntime) -> Result<(), Fail> {
             if 0 [ call (1 2) 0 (0); lit 3 268509196; write 3 1; ] [ ]\n",
         ),
     ];
-    for (text, expected) in &rows {
-        let found = shown(alloc, text)?;
-        if found.as_str() != *expected {
-            println!(rt; "{text}\n{found}{expected}")?;
-            return Err(Fail::new("other statements"));
-        }
-    }
-    Ok(())
+    show_alike(&rt, &rows)
 }
 
 // The others of that folder, and how many functions each has.

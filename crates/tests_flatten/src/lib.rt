@@ -5,6 +5,8 @@
 #[cfg(test)]
 mod examples;
 #[cfg(test)]
+mod held;
+#[cfg(test)]
 mod shown;
 #[cfg(test)]
 mod statements;

@@ -3,16 +3,31 @@
 use br_flatimp::{Cond, FlatFunc, Operand, Stmt};
 use br_flatten::flatten;
 use br_measure::check;
-use br_sexpr::read;
+use br_sexpr::{MOST_BYTES, read};
 use br_syntax::from_tree;
 use std::alloc::Global;
 use std::fmt::Write;
 use std::test::Fail;
 
-/// The flat functions of a text, one a line: the arguments, the results, the count of names, and the
-/// statements.
+/// Fails where a text has other flat functions than the lines beside it.
+pub(crate) fn show_alike(
+    rt: &(impl Print + AllocGlobal),
+    rows: &[(&str, &str)],
+) -> Result<(), Fail> {
+    for (text, expected) in rows {
+        let found = shown(rt.alloc(), text)?;
+        if found.as_str() != *expected {
+            rt.println(format_args!("{text}\n{found}{expected}"))?;
+            return Err(Fail::new("other statements"));
+        }
+    }
+    Ok(())
+}
+
+/// The flat functions of a text, one a line: the arguments, the results,
+/// the count of names, and the statements.
 pub(crate) fn shown(alloc: Global, text: &str) -> Result<String, Fail> {
-    if text.len() > 1_048_576 {
+    if text.len() > MOST_BYTES {
         return Err(Fail::new("a long text"));
     }
     let program = from_tree(alloc, read(alloc, text.as_bytes())?.as_slice())?;

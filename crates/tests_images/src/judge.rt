@@ -114,9 +114,9 @@ fn light(trace: &mut Vec<Event>, v: u32) -> Result<(), AllocError> {
     Ok(())
 }
 
-// Whether a trace is taken, and departs where one event is changed: at once where a bit of the address
-// or of a value that is written is changed, and at the next event where bit 31 of a value that is read
-// is.
+// Whether a trace is taken, and departs where one event is changed: at once where a
+// bit of the address or of a value that is written is changed, and at the next event
+// where bit 31 of a value that is read is.
 fn departs_where_changed(trace: &[Event]) -> bool {
     let mut judge = Judge::new();
     for (i, e) in trace.iter().enumerate() {

@@ -24,8 +24,8 @@ fn fault_of(alloc: Global, text: &[u8], run: bool) -> Result<Option<ScriptFault>
 
 #[test]
 fn a_run_script_is_read(rt: HostRuntime) -> Result<(), Fail> {
-    let text =
-        b"brrun 1\ncall main\nargs 00000001 ffffffff\nmem 80100000 0011\nmem 80100002 ff\njunk 11223344\nanswer 00000005 2\nanswer 00000006 1\nlimit 100\nend\nbrimage 2\n";
+    let text = b"brrun 1\ncall main\nargs 00000001 ffffffff\nmem 80100000 0011\nmem 80100002 ff\n\
+        junk 11223344\nanswer 00000005 2\nanswer 00000006 1\nlimit 100\nend\nbrimage 2\n";
     let (script, at) = match read_run(rt.alloc(), text) {
         Ok(read) => read,
         Err(_) => return Err(Fail::from("a script")),
@@ -53,7 +53,8 @@ fn a_run_script_is_read(rt: HostRuntime) -> Result<(), Fail> {
 #[test]
 fn an_interp_script_is_read(rt: HostRuntime) -> Result<(), Fail> {
     let text =
-        b"brinterp 1\ncall f\nargs\nchoice 80200000 01ff\nchoice 00000000\nanswer 00000007 1\nlimit 0\nend\n(fn";
+        b"brinterp 1\ncall f\nargs\nchoice 80200000 01ff\nchoice 00000000\nanswer 00000007 1\n\
+        limit 0\nend\n(fn";
     let (script, at) = match read_interp(rt.alloc(), text) {
         Ok(read) => read,
         Err(_) => return Err(Fail::from("a script")),

@@ -1,4 +1,5 @@
-//! Tests of memories, instructions and the machine. They stand in a crate of their own, since the proof of a crate with tests is made twice.
+//! Tests of memories, instructions and the machine. They stand in a crate of their own, since the
+//! proof of a crate with tests is made twice.
 #![tactic(auto)]
 
 #[cfg(test)]

@@ -1,7 +1,7 @@
 // Programs that are run.
 
 use br_bytes::{ByteMap, Choice, Event, Outcome};
-use br_sexpr::read;
+use br_sexpr::{MOST_BYTES, read};
 use br_source_meaning::{Finished, Interp};
 use br_syntax::from_tree;
 use br_words::Size;
@@ -31,7 +31,7 @@ const NOTHING: Given = Given {
 
 // Runs the first function of a text to its end.
 fn run(alloc: Global, text: &str, given: &Given) -> Result<Finished, Fail> {
-    if text.len() > 1_048_576 {
+    if text.len() > MOST_BYTES {
         return Err(Fail::new("a long text"));
     }
     let program = from_tree(alloc, read(alloc, text.as_bytes())?.as_slice())?;
@@ -104,7 +104,8 @@ fn expressions_and_memory(rt: HostRuntime) -> Result<(), Fail> {
     };
     let rows = [
         (
-            "(fn main () (a b c) (set a (divu 7 0)) (set b (remu 7 0)) (set c (srs 0x80000000 33)))",
+            "(fn main () (a b c) (set a (divu 7 0)) (set b (remu 7 0))
+                (set c (srs 0x80000000 33)))",
             NOTHING,
             "done ffffffff 00000007 c0000000",
         ),
@@ -202,14 +203,17 @@ fn devices_and_buffers(rt: HostRuntime) -> Result<(), Fail> {
             "undefined",
         ),
         (
-            "(fn main () (r) (interact () MMIOWRITE 0x10013000 65) (interact (r) MMIOREAD 0x10013004))",
+            "(fn main () (r) (interact () MMIOWRITE 0x10013000 65)
+                (interact (r) MMIOREAD 0x10013004))",
             ready,
             "write 10013000 00000041, read 10013004 00000000, done 00000000",
         ),
         (buffer, NOTHING, "nochoice"),
         (buffer, chosen, "write 1001200c 11223344, done"),
         (
-            "(fn main () (r) (set v0 0) (set v1 1) (set v2 2) (stackalloc p 16 (store4 (add p 12) 7) (set r (load4 (add p 12)))) (set r (add r v0)) (set r (add r v1)) (set r (add r v2)))",
+            "(fn main () (r) (set v0 0) (set v1 1) (set v2 2)
+                (stackalloc p 16 (store4 (add p 12) 7) (set r (load4 (add p 12))))
+                (set r (add r v0)) (set r (add r v1)) (set r (add r v2)))",
             chosen,
             "done 0000000a",
         ),
@@ -244,7 +248,8 @@ fn loops_and_calls(rt: HostRuntime) -> Result<(), Fail> {
             "done 00000001",
         ),
         (
-            "(fn main () (n s) (set n 3) (set s 0) (while n (call (s) add n s) (set n (sub n 1)))) (fn add (a b) (s) (set s (add a b)))",
+            "(fn main () (n s) (set n 3) (set s 0) (while n (call (s) add n s) (set n (sub n 1))))
+                (fn add (a b) (s) (set s (add a b)))",
             NOTHING,
             "done 00000000 00000006",
         ),

@@ -19,8 +19,8 @@ fn function(alloc: Global, name: &str, body: Items<Stmt>) -> Result<FlatFunc, Fa
     })
 }
 
-// What is the operand of an operation, where a literal set the name 1 that was its operand, and another
-// statement stands between.
+// What is the operand of an operation, where a literal set the name 1 that was its operand,
+// and another statement stands between.
 fn operand_after(
     rt: &impl Abort,
     alloc: Global,
@@ -46,8 +46,9 @@ fn operand_after(
     }
 }
 
-// Immediates have twelve bits and a sign, a difference is the sum with the opposite number, and a shift
-// is by fewer than 32 bits. What a call or a statement with parts leaves of a name is not looked for.
+// Immediates have twelve bits and a sign, a difference is the sum with the opposite
+// number, and a shift is by fewer than 32 bits. What a call or a statement with
+// parts leaves of a name is not looked for.
 #[test]
 fn constants_stand_for_names(rt: HostRuntime) -> Result<(), Fail> {
     let alloc = rt.alloc();

@@ -28,7 +28,8 @@ fn function(
     })
 }
 
-// The bytes of the buffer around the body of a function in register form, or 0, and the statements in it.
+// The bytes of the buffer around the body of a function in register
+// form, or 0, and the statements in it.
 fn size_of(body: &[Stmt]) -> (u32, usize) {
     match body.first() {
         Some(Stmt::Stackalloc(_, bytes, inner)) => (*bytes, inner.len()),
@@ -47,9 +48,9 @@ fn registers_of(
     Ok(spill(alloc, p)?)
 }
 
-// One argument, the first name, is added to the last name, which is the result. With 21 names at most
-// the three statements are a copy, the sum and a copy. A word of the buffer is loaded, stored and passed
-// by a statement each, and by three each past the first 512 words.
+// One argument, the first name, is added to the last name, which is the result. With 21 names at
+// most the three statements are a copy, the sum and a copy. A word of the buffer is loaded, stored
+// and passed by a statement each, and by three each past the first 512 words.
 #[test]
 fn names_in_registers_and_in_the_buffer(rt: HostRuntime) -> Result<(), Fail> {
     let alloc = rt.alloc();

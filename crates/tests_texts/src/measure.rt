@@ -14,7 +14,7 @@ fn checked(
     alloc: Global,
     text: &[u8],
 ) -> Result<Result<Checked, OrMemory<NameFault>>, Fail> {
-    assert!(rt; text.len() <= 1048576);
+    assert!(rt; text.len() <= br_sexpr::MOST_BYTES);
     let trees = br_sexpr::read(alloc, text)?;
     let program = from_tree(alloc, trees.as_slice())?;
     Ok(check(alloc, program))
@@ -104,7 +104,8 @@ fn texts_have_their_faults(rt: HostRuntime) -> Result<(), Fail> {
             None,
         ),
         (
-            b"(fn a () () (call () b) (call () b) (call () b) (call () b) (call () b) (call () b) (call () b) (call () b) (call () b))(fn b () ())",
+            b"(fn a () () (call () b) (call () b) (call () b) (call () b) (call () b) (call () b)
+                (call () b) (call () b) (call () b))(fn b () ())",
             None,
         ),
     ];

@@ -1,6 +1,7 @@
 // Reading: the fault of a text, its offsets, and the deepest texts.
 
 ghost use Rattle.std.specs.Prelude.{◌≤◌, length};
+ghost use Rattle.br_sexpr.specs.Reads.{most_bytes};
 
 use br_base::OrMemory;
 use br_sexpr::{TextFault, Tree, read};
@@ -9,7 +10,7 @@ use std::test::Fail;
 
 // What is wrong with a text, and None where it reads.
 fn fault(alloc: Global, text: &[u8]) -> Result<Option<TextFault>, AllocError>
-    requires { length text.now ≤ 1048576 }
+    requires { length text.now ≤ most_bytes }
 {
     match read(alloc, text) {
         Ok(_) => Ok(None),

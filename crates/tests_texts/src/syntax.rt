@@ -1,14 +1,14 @@
 // Texts and what their trees stand for.
 
 use br_base::OrMemory;
-use br_sexpr::{Tree, print, read};
+use br_sexpr::{MOST_BYTES, Tree, print, read};
 use br_syntax::{Cmd, Program, ShapeFault, from_tree, to_tree};
 use sqlite_items::Items;
 use std::alloc::Global;
 use std::test::Fail;
 
 fn trees_of(alloc: Global, text: &str) -> Result<Items<Tree>, Fail> {
-    if text.len() > 1_048_576 {
+    if text.len() > MOST_BYTES {
         return Err(Fail::new("a long text"));
     }
     Ok(read(alloc, text.as_bytes())?)

@@ -23,15 +23,18 @@ const PLAIN_INTERP: &[u8] = b"args\nlimit 100000\nend\n";
 
 /// An image that writes 1 to one device word and reads another, which is the result.
 const WRITES_AND_READS: &[u8] =
-    b"brimage 1\nentry main 0 1 0 0\ncode 5\n100122b7\n00100313\n0062a423\n00c2a503\n00000073\nend\n";
+    b"brimage 1\nentry main 0 1 0 0\ncode 5\n100122b7\n00100313\n0062a423\n00c2a503\n00000073\n\
+    end\n";
 
 /// An image that keeps two bytes at an odd address of the data region and loads four from there.
 const STORES_AND_LOADS: &[u8] =
-    b"brimage 1\nentry main 0 1 0 0\ncode 6\n801002b7\n00001337\n23430313\n006290a3\n0012a503\n00000073\nend\n";
+    b"brimage 1\nentry main 0 1 0 0\ncode 6\n801002b7\n00001337\n23430313\n006290a3\n0012a503\n\
+    00000073\nend\n";
 
 /// An image that writes a word that it finds in the stack region to a device.
 const SHOWS_THE_STACK: &[u8] =
-    b"brimage 1\nentry main 0 0 0 0\ncode 5\n802002b7\n0002a303\n100123b7\n0063a623\n00000073\nend\n";
+    b"brimage 1\nentry main 0 0 0 0\ncode 5\n802002b7\n0002a303\n100123b7\n0063a623\n00000073\n\
+    end\n";
 
 /// An image whose only instruction ends the call.
 const ENDS: &[u8] = b"brimage 1\nentry main 0 0 0 0\ncode 1\n00000073\nend\n";
@@ -143,7 +146,8 @@ fn interps(rt: HostRuntime) -> Result<(), Fail> {
         ),
         (
             PLAIN_INTERP,
-            b"(fn main () (a b c) (set a (divu 7 0)) (set b (remu 7 0)) (set c (srs 0x80000000 33)))",
+            b"(fn main () (a b c) (set a (divu 7 0)) (set b (remu 7 0)) (set c (srs 0x80000000 \
+            33)))",
             b"done ffffffff 00000007 c0000000\n",
         ),
         (
@@ -163,12 +167,14 @@ fn interps(rt: HostRuntime) -> Result<(), Fail> {
         ),
         (
             PLAIN_INTERP,
-            b"(fn main () (r) (interact () MMIOWRITE 0x10012008 1) (interact (r) MMIOREAD 0x1001200C))",
+            b"(fn main () (r) (interact () MMIOWRITE 0x10012008 1) (interact (r) MMIOREAD \
+            0x1001200C))",
             b"write 10012008 00000001\nwaiting 1001200c\n",
         ),
         (
             b"args\nanswer 00000005 1\nlimit 100000\nend\n",
-            b"(fn main () (r) (interact () MMIOWRITE 0x10012008 1) (interact (r) MMIOREAD 0x1001200C))",
+            b"(fn main () (r) (interact () MMIOWRITE 0x10012008 1) (interact (r) MMIOREAD \
+            0x1001200C))",
             b"write 10012008 00000001\nread 1001200c 00000005\ndone 00000005\n",
         ),
         (

@@ -1,10 +1,12 @@
 // Reading the fields of a line, each after one space.
 
-ghost use Rattle.std.specs.Prelude.{◌≡◌, ◌≢◌, ◌<◌, ◌≤◌, ◌^◌, ◌++◌, ◌∷◌, [], ℕ, List, length, All, IfSome, IfNone, IfOk};
+ghost use Rattle.std.specs.Prelude.{◌≡◌, ◌≢◌, ◌<◌, ◌≤◌, ◌^◌, ◌++◌, ◌∷◌, [], ℕ};
+ghost use Rattle.std.specs.Prelude.{List, length, All, IfSome, IfNone, IfOk};
 ghost use Rattle.std.specs.Fmt.{decimal};
 ghost use Rattle.br_image.specs.Text.{word_text};
 ghost use Rattle.br_image.specs.Forms.{Lacks, IsTail};
-ghost use Rattle.br_image.specs.Fields.{word_fields, bytes_text, bytes_field};
+ghost use Rattle.br_image.specs.Fields.{word_fields, bytes_field};
+ghost use Rattle.br_bytes.specs.Hexadecimal.{bytes_text};
 
 use crate::parsing::{parse_number, parse_word};
 use br_base::NoMemory;
@@ -35,8 +37,10 @@ pub(crate) fn after_space(tail: &[u8]) -> Option<&[u8]>
 
 /// The word in the field that comes first, and what follows it.
 pub(crate) fn word_field(tail: &[u8]) -> Option<(u32, &[u8])>
-    ensures some { IfSome result (λ p. (p.0 < 2 ^ 32) × (tail.now ≡ 32 ∷ (word_text p.0 ++ p.1.now))) }
-    ensures none { IfNone result ((w : ℕ) (rest : List ℕ) → w < 2 ^ 32 → tail.now ≢ 32 ∷ (word_text w ++ rest)) }
+    ensures some { IfSome result
+        (λ p. (p.0 < 2 ^ 32) × (tail.now ≡ 32 ∷ (word_text p.0 ++ p.1.now))) }
+    ensures none { IfNone result
+        ((w : ℕ) (rest : List ℕ) → w < 2 ^ 32 → tail.now ≢ 32 ∷ (word_text w ++ rest)) }
 {
     let rest = after_space(tail)?;
     if rest.len() < 8 {
@@ -68,8 +72,10 @@ pub(crate) fn only_words(
     tail: &[u8],
     most: usize,
 ) -> Result<Option<Items<u32>>, NoMemory>
-    ensures some { IfOk result (λ o. IfSome o (λ ws. (length ws ≤ most) × All (λ w. w < 2 ^ 32) ws × (tail.now ≡ word_fields ws))) }
-    ensures none { IfOk result (λ o. IfNone o ((ws : List ℕ) → length ws ≤ most → All (λ w. w < 2 ^ 32) ws → tail.now ≢ word_fields ws)) }
+    ensures some { IfOk result (λ o. IfSome o
+        (λ ws. (length ws ≤ most) × All (λ w. w < 2 ^ 32) ws × (tail.now ≡ word_fields ws))) }
+    ensures none { IfOk result (λ o. IfNone o
+        ((ws : List ℕ) → length ws ≤ most → All (λ w. w < 2 ^ 32) ws → tail.now ≢ word_fields ws)) }
 {
     let mut words = Items::new(alloc);
     let mut left = tail;
@@ -88,8 +94,10 @@ pub(crate) fn only_words(
 
 /// The bytes in a field of digits, two for each byte, where no field stands for no bytes.
 pub(crate) fn only_bytes(alloc: Global, tail: &[u8]) -> Result<Option<Items<u8>>, NoMemory>
-    ensures some { IfOk result (λ o. IfSome o (λ bytes. All (λ b. b < 256) bytes × (tail.now ≡ bytes_field bytes))) }
-    ensures none { IfOk result (λ o. IfNone o ((bytes : List ℕ) → All (λ b. b < 256) bytes → tail.now ≢ bytes_field bytes)) }
+    ensures some { IfOk result
+        (λ o. IfSome o (λ bytes. All (λ b. b < 256) bytes × (tail.now ≡ bytes_field bytes))) }
+    ensures none { IfOk result (λ o.
+        IfNone o ((bytes : List ℕ) → All (λ b. b < 256) bytes → tail.now ≢ bytes_field bytes)) }
 {
     if tail.is_empty() {
         return Ok(Some(Items::new(alloc)));
@@ -100,10 +108,12 @@ pub(crate) fn only_bytes(alloc: Global, tail: &[u8]) -> Result<Option<Items<u8>>
     }
 }
 
-/// The bytes that digits stand for, two in lower case for each byte.
+// The bytes that digits stand for, two in lower case for each byte.
 fn parse_bytes(alloc: Global, digits: &[u8]) -> Result<Option<Items<u8>>, NoMemory>
-    ensures some { IfOk result (λ o. IfSome o (λ bytes. All (λ b. b < 256) bytes × (digits.now ≡ bytes_text bytes))) }
-    ensures none { IfOk result (λ o. IfNone o ((bytes : List ℕ) → All (λ b. b < 256) bytes → digits.now ≢ bytes_text bytes)) }
+    ensures some { IfOk result
+        (λ o. IfSome o (λ bytes. All (λ b. b < 256) bytes × (digits.now ≡ bytes_text bytes))) }
+    ensures none { IfOk result (λ o.
+        IfNone o ((bytes : List ℕ) → All (λ b. b < 256) bytes → digits.now ≢ bytes_text bytes)) }
 {
     match hex::decode(alloc, digits) {
         Ok(bytes) => {

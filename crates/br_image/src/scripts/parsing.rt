@@ -1,6 +1,7 @@
 // Reading one line of a script.
 
-ghost use Rattle.std.specs.Prelude.{◌≡◌, ◌≢◌, ◌<◌, ◌≤◌, ◌^◌, ◌++◌, ◌∷◌, [], ℕ, List, IfSome, IfNone, IfOk, IsTrue, ◌↔◌};
+ghost use Rattle.std.specs.Prelude.{◌≡◌, ◌≢◌, ◌<◌, ◌≤◌, ◌^◌, ◌++◌, ◌∷◌, [], ℕ};
+ghost use Rattle.std.specs.Prelude.{List, IfSome, IfNone, IfOk, IsTrue, ◌↔◌};
 ghost use Rattle.br_bytes.specs.declared.run.Choice.{Choice};
 ghost use Rattle.br_image.specs.declared.scripts.lines.Form.{Form};
 ghost use Rattle.br_image.specs.declared.scripts.lines.Form.TheVariants as form;
@@ -28,7 +29,7 @@ pub(crate) fn parse_script_line(alloc: Global, bytes: &[u8]) -> Result<Option<Sc
     }
 }
 
-/// The form whose lines begin with this word.
+// The form whose lines begin with this word.
 fn form_named(word: &[u8]) -> Option<Form>
     ensures some { IfSome result (λ f. word.now ≡ keyword f) }
     ensures none { IfNone result ((f : Form) → word.now ≢ keyword f) }
@@ -48,7 +49,7 @@ fn form_named(word: &[u8]) -> Option<Form>
     }
 }
 
-/// The line of this form that has these bytes after its first word.
+// The line of this form that has these bytes after its first word.
 fn parse_content(alloc: Global, form: Form, tail: &[u8]) -> Result<Option<ScriptLine>, NoMemory>
     ensures { IfOk result (IsContent form tail.now) }
 {
@@ -167,7 +168,8 @@ fn end_line(tail: &[u8]) -> Option<ScriptLine>
 /// An address and the bytes from there on.
 pub(crate) fn parse_buffer(alloc: Global, tail: &[u8]) -> Result<Option<Choice>, NoMemory>
     ensures some { IfOk result (λ o. IfSome o (λ c. IsBuffer c × (tail.now ≡ range_fields c))) }
-    ensures none { IfOk result (λ o. IfNone o ((c : Choice) → IsBuffer c → tail.now ≢ range_fields c)) }
+    ensures none { IfOk result
+        (λ o. IfNone o ((c : Choice) → IsBuffer c → tail.now ≢ range_fields c)) }
 {
     let Some((addr, rest)) = word_field(tail) else {
         return Ok(None);

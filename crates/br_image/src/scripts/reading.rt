@@ -5,8 +5,9 @@ ghost use Rattle.br_base.specs.declared.failure.OrMemory.TheVariants.{Memory};
 ghost use Rattle.br_image.specs.declared.scripts.values.RunScript.{RunScript};
 ghost use Rattle.br_image.specs.declared.scripts.values.InterpScript.{InterpScript};
 ghost use Rattle.br_image.specs.declared.scripts.values.ScriptFault.{ScriptFault};
-ghost use Rattle.br_image.specs.Faults.{ForFault};
-ghost use Rattle.br_image.specs.Scripts.{run_parts, interp_parts, IsRunScript, IsInterpScript, IsScriptFault};
+ghost use Rattle.br_base.specs.Faults.{IfFault};
+ghost use Rattle.br_image.specs.Scripts.{run_parts, interp_parts, IsRunScript};
+ghost use Rattle.br_image.specs.Scripts.{IsInterpScript, IsScriptFault};
 ghost use Rattle.br_image.specs.Said.{HasSaid, AreSound};
 
 use crate::parsing::cut;
@@ -17,7 +18,7 @@ use crate::scripts::values::{InterpScript, RunScript, ScriptFault};
 use br_base::OrMemory;
 use std::alloc::Global;
 
-/// What the lines of a script of these parts say, and the place after the script.
+// What the lines of a script of these parts say, and the place after the script.
 fn read_lines(
     alloc: Global,
     text: &[u8],
@@ -26,7 +27,7 @@ fn read_lines(
     requires short { length text.now ≤ 1073741824 }
     requires sound { AreSound parts.now }
     ensures said { IfOk result (λ p. HasSaid parts.now text.now p.0 p.1) }
-    ensures refused { IfErr result (λ e. ForFault e (IsScriptFault parts.now text.now)) }
+    ensures refused { IfErr result (λ e. IfFault e (IsScriptFault parts.now text.now)) }
 {
     let mut said = Said::nothing(alloc);
     let mut left = parts;
@@ -69,20 +70,22 @@ pub fn read_run(alloc: Global, text: &[u8]) -> Result<(RunScript, usize), OrMemo
     requires { length text.now ≤ 1073741824 }
     // What is read stands in the text, and what is refused has the fault.
     ensures script { IfOk result (λ p. IsRunScript text.now p.0 p.1) }
-    ensures refused { IfErr result (λ e. ForFault e (IsScriptFault run_parts text.now)) }
+    ensures refused { IfErr result (λ e. IfFault e (IsScriptFault run_parts text.now)) }
 
     // Each script is read, and a text with a fault is refused for it, unless there is no memory.
-    ensures each_script { (s : RunScript) (at : ℕ) → IsRunScript text.now s at → MatchResult result (λ p. (p.0 ≡ s) × (p.1 ≡ at)) (λ e. e ≡ Memory) }
-    ensures each_fault { (f : ScriptFault) → IsScriptFault run_parts text.now f → MatchResult result (λ _. ⊥) (λ e. ForFault e (λ g. g ≡ f)) }
+    ensures each_script { (s : RunScript) (at : ℕ) → IsRunScript text.now s at →
+        MatchResult result (λ p. (p.0 ≡ s) × (p.1 ≡ at)) (λ e. e ≡ Memory) }
+    ensures each_fault { (f : ScriptFault) → IsScriptFault run_parts text.now f →
+        MatchResult result (λ _. ⊥) (λ e. IfFault e (λ g. g ≡ f)) }
 {
     run_of(alloc, text)
 }
 
-/// The run script that a text begins with and the place after it, or the fault.
+// The run script that a text begins with and the place after it, or the fault.
 fn run_of(alloc: Global, text: &[u8]) -> Result<(RunScript, usize), OrMemory<ScriptFault>>
     requires { length text.now ≤ 1073741824 }
     ensures script { IfOk result (λ p. IsRunScript text.now p.0 p.1) }
-    ensures refused { IfErr result (λ e. ForFault e (IsScriptFault run_parts text.now)) }
+    ensures refused { IfErr result (λ e. IfFault e (IsScriptFault run_parts text.now)) }
 {
     let (said, at) = read_lines(alloc, text, &RUN)?;
     Ok((said.run_script(), at))
@@ -100,18 +103,20 @@ pub fn read_interp(
 ) -> Result<(InterpScript, usize), OrMemory<ScriptFault>>
     requires { length text.now ≤ 1073741824 }
     ensures script { IfOk result (λ p. IsInterpScript text.now p.0 p.1) }
-    ensures refused { IfErr result (λ e. ForFault e (IsScriptFault interp_parts text.now)) }
-    ensures each_script { (s : InterpScript) (at : ℕ) → IsInterpScript text.now s at → MatchResult result (λ p. (p.0 ≡ s) × (p.1 ≡ at)) (λ e. e ≡ Memory) }
-    ensures each_fault { (f : ScriptFault) → IsScriptFault interp_parts text.now f → MatchResult result (λ _. ⊥) (λ e. ForFault e (λ g. g ≡ f)) }
+    ensures refused { IfErr result (λ e. IfFault e (IsScriptFault interp_parts text.now)) }
+    ensures each_script { (s : InterpScript) (at : ℕ) → IsInterpScript text.now s at →
+        MatchResult result (λ p. (p.0 ≡ s) × (p.1 ≡ at)) (λ e. e ≡ Memory) }
+    ensures each_fault { (f : ScriptFault) → IsScriptFault interp_parts text.now f →
+        MatchResult result (λ _. ⊥) (λ e. IfFault e (λ g. g ≡ f)) }
 {
     interp_of(alloc, text)
 }
 
-/// The interp script that a text begins with and the place after it, or the fault.
+// The interp script that a text begins with and the place after it, or the fault.
 fn interp_of(alloc: Global, text: &[u8]) -> Result<(InterpScript, usize), OrMemory<ScriptFault>>
     requires { length text.now ≤ 1073741824 }
     ensures script { IfOk result (λ p. IsInterpScript text.now p.0 p.1) }
-    ensures refused { IfErr result (λ e. ForFault e (IsScriptFault interp_parts text.now)) }
+    ensures refused { IfErr result (λ e. IfFault e (IsScriptFault interp_parts text.now)) }
 {
     let (said, at) = read_lines(alloc, text, &INTERP)?;
     Ok((said.interp_script(), at))

@@ -81,7 +81,8 @@ impl Said {
     /// The run script that the lines of a whole one said.
     pub(crate) fn run_script(self) -> RunScript
         requires { SaidBy run_parts self }
-        ensures { (lines : List ScriptLine) → Fits run_parts lines → Says lines self → SaysRun lines result }
+        ensures { (lines : List ScriptLine) → Fits run_parts lines → Says lines self →
+            SaysRun lines result }
     {
         let Said {
             call,
@@ -105,7 +106,8 @@ impl Said {
     /// The interp script that the lines of a whole one said.
     pub(crate) fn interp_script(self) -> InterpScript
         requires { SaidBy interp_parts self }
-        ensures { (lines : List ScriptLine) → Fits interp_parts lines → Says lines self → SaysInterp lines result }
+        ensures { (lines : List ScriptLine) → Fits interp_parts lines → Says lines self →
+            SaysInterp lines result }
     {
         let Said {
             call,
@@ -127,7 +129,7 @@ impl Said {
     }
 }
 
-/// Adds a word so many times.
+// Adds a word so many times.
 fn push_times(answers: &mut Items<u32>, word: u32, times: u32) -> Result<(), NoMemory>
     ensures { OnOk result (answers.new ≡ answers.old ++ replicate times word) }
 {

@@ -1,6 +1,7 @@
 // Reading one line of a trace text.
 
-ghost use Rattle.std.specs.Prelude.{◌≡◌, ◌≢◌, ◌<◌, ◌^◌, ◌++◌, ◌∷◌, [], ℕ, List, IfSome, IfNone, IfOk};
+ghost use Rattle.std.specs.Prelude.{◌≡◌, ◌≢◌, ◌<◌, ◌^◌, ◌++◌, ◌∷◌, []};
+ghost use Rattle.std.specs.Prelude.{ℕ, List, IfSome, IfNone, IfOk};
 ghost use Rattle.br_image.specs.declared.traces.lines.Cause.{Cause};
 ghost use Rattle.br_image.specs.declared.traces.lines.TraceForm.{TraceForm};
 ghost use Rattle.br_image.specs.declared.traces.lines.TraceForm.TheVariants as form;
@@ -24,7 +25,7 @@ pub(crate) fn parse_trace_line(alloc: Global, bytes: &[u8]) -> Result<Option<Tra
     }
 }
 
-/// The form whose lines begin with this word.
+// The form whose lines begin with this word.
 fn form_named(word: &[u8]) -> Option<TraceForm>
     ensures some { IfSome result (λ f. word.now ≡ trace_keyword f) }
     ensures none { IfNone result ((f : TraceForm) → word.now ≢ trace_keyword f) }
@@ -41,7 +42,7 @@ fn form_named(word: &[u8]) -> Option<TraceForm>
     }
 }
 
-/// The cause that has this word.
+// The cause that has this word.
 fn cause_named(word: &[u8]) -> Option<Cause>
     ensures some { IfSome result (λ cause. word.now ≡ cause_word cause) }
     ensures none { IfNone result ((cause : Cause) → word.now ≢ cause_word cause) }
@@ -67,7 +68,7 @@ fn cause_named(word: &[u8]) -> Option<Cause>
     None
 }
 
-/// The line of this form that has these bytes after its first word.
+// The line of this form that has these bytes after its first word.
 fn parse_content(alloc: Global, form: TraceForm, tail: &[u8]) -> Result<Option<TraceLine>, NoMemory>
     ensures { IfOk result (IsTraceContent form tail.now) }
 {
@@ -82,10 +83,12 @@ fn parse_content(alloc: Global, form: TraceForm, tail: &[u8]) -> Result<Option<T
     }
 }
 
-/// An address and a value.
+// An address and a value.
 fn parse_event(tail: &[u8]) -> Option<(u32, u32)>
-    ensures some { IfSome result (λ p. (p.0 < 2 ^ 32) × (p.1 < 2 ^ 32) × (tail.now ≡ event_fields p.0 p.1)) }
-    ensures none { IfNone result ((a v : ℕ) → a < 2 ^ 32 → v < 2 ^ 32 → tail.now ≢ event_fields a v) }
+    ensures some { IfSome result
+        (λ p. (p.0 < 2 ^ 32) × (p.1 < 2 ^ 32) × (tail.now ≡ event_fields p.0 p.1)) }
+    ensures none { IfNone result
+        ((a v : ℕ) → a < 2 ^ 32 → v < 2 ^ 32 → tail.now ≢ event_fields a v) }
 {
     let Some((address, rest)) = word_field(tail) else {
         return None;

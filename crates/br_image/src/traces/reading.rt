@@ -4,7 +4,7 @@ ghost use Rattle.std.specs.Prelude.{◌≡◌, ◌≤◌, List, length, IfOk, If
 ghost use Rattle.br_base.specs.declared.failure.OrMemory.TheVariants.{Memory};
 ghost use Rattle.br_bytes.specs.declared.run.Event.{Event};
 ghost use Rattle.br_image.specs.declared.traces.reading.TraceFault.{TraceFault};
-ghost use Rattle.br_image.specs.Faults.{ForFault};
+ghost use Rattle.br_base.specs.Faults.{IfFault};
 ghost use Rattle.br_image.specs.Traces.{IsTrace, IsTraceFault};
 
 use crate::parsing::cut;
@@ -31,28 +31,31 @@ pub enum TraceFault {
 /// A trace text has any number of lines `read W W` and `write W W`, address and value. One line may
 /// follow that ends them: `halted` and at most eight words, `waiting W`, `trapped KIND W` or
 /// `running`, with the kind `illegal`, `fetchoutside`, `fetchmisaligned`, `accessoutside`,
-/// `deviceaccess` or `codewrite`. After `halted` any number of lines `mem W BYTES` may follow, whose
-/// ranges lie in the data region, each at or after the end of the one before.
+/// `deviceaccess` or `codewrite`. After `halted` any number of lines `mem W BYTES` may follow,
+/// whose ranges lie in the data region, each at or after the end of the one before.
 ///
 /// Every text that is no trace text has one fault, and is refused for it.
 pub fn read_trace(alloc: Global, text: &[u8]) -> Result<Items<Event>, OrMemory<TraceFault>>
     requires { length text.now ≤ 1073741824 }
     // What is read stands in the text, and what is refused has the fault.
     ensures trace { IfOk result (λ events. IsTrace text.now events) }
-    ensures refused { IfErr result (λ e. ForFault e (IsTraceFault text.now)) }
+    ensures refused { IfErr result (λ e. IfFault e (IsTraceFault text.now)) }
 
-    // Each trace text is read, and a text with a fault is refused for it, unless there is no memory.
-    ensures each_trace { (events : List Event) → IsTrace text.now events → MatchResult result (λ read. read ≡ events) (λ e. e ≡ Memory) }
-    ensures each_fault { (f : TraceFault) → IsTraceFault text.now f → MatchResult result (λ _. ⊥) (λ e. ForFault e (λ g. g ≡ f)) }
+    // Each trace text is read, and a text with a fault is
+    // refused for it, unless there is no memory.
+    ensures each_trace { (events : List Event) → IsTrace text.now events →
+        MatchResult result (λ read. read ≡ events) (λ e. e ≡ Memory) }
+    ensures each_fault { (f : TraceFault) → IsTraceFault text.now f →
+        MatchResult result (λ _. ⊥) (λ e. IfFault e (λ g. g ≡ f)) }
 {
     trace_of(alloc, text)
 }
 
-/// The events of a trace text, or the fault.
+// The events of a trace text, or the fault.
 fn trace_of(alloc: Global, text: &[u8]) -> Result<Items<Event>, OrMemory<TraceFault>>
     requires { length text.now ≤ 1073741824 }
     ensures trace { IfOk result (λ events. IsTrace text.now events) }
-    ensures refused { IfErr result (λ e. ForFault e (IsTraceFault text.now)) }
+    ensures refused { IfErr result (λ e. IfFault e (IsTraceFault text.now)) }
 {
     let mut shown = Shown::nothing(alloc);
     let mut stage = Stage::Events;

@@ -1,10 +1,12 @@
 // Whether a program meets what `needs` asks for.
 
-ghost use Rattle.std.specs.Prelude.{◌≡◌, ℕ, ◌+◌, ◌<◌, ◌^◌, ◌&&◌, IsTrue, IfOk, length, nat_le, nat_lt, slice_index};
+ghost use Rattle.std.specs.Prelude.{◌≡◌, ℕ, ◌+◌, ◌<◌, ◌^◌, ◌&&◌, IsTrue, IfOk};
+ghost use Rattle.std.specs.Prelude.{length, nat_le, nat_lt, slice_index};
 ghost use Rattle.std.specs.List.{list_all};
 ghost use Rattle.br_flatimp.specs.Parts.{operand_names, test_names, throughout};
 ghost use Rattle.br_flatimp.specs.Sizes.{HasNoRecursion};
-ghost use Rattle.br_flatimp.specs.WellFormed.{IsRegisterForm, are_registers, is_in_order, is_passing, is_register_function, uses_registers};
+ghost use Rattle.br_flatimp.specs.WellFormed.{IsRegisterForm, are_registers, is_in_order};
+ghost use Rattle.br_flatimp.specs.WellFormed.{is_passing, is_register_function, uses_registers};
 
 use crate::calls::call_table;
 use br_base::NoMemory;
@@ -123,13 +125,14 @@ fn test_fits(test: Cond) -> bool
 }
 
 fn call_fits(xs: &[u32], ys: &[u32]) -> bool
-    ensures { result ≡ (are_registers xs.now && are_registers ys.now && (is_passing xs.now && is_passing ys.now)) }
+    ensures { result ≡ (are_registers xs.now && are_registers ys.now
+        && (is_passing xs.now && is_passing ys.now)) }
 {
     are_registers(xs) && are_registers(ys) && are_passed(xs) && are_passed(ys)
 }
 
-/// Whether each function calls functions of a higher rank alone, so that none has a path of calls to
-/// itself.
+/// Whether each function calls functions of a higher rank alone, so
+/// that none has a path of calls to itself.
 pub fn calls_rise(alloc: Global, p: &FlatProgram, ranks: &[u32]) -> Result<bool, NoMemory>
     ensures { IfOk result (λ rise. IsTrue rise → HasNoRecursion p.now.funcs) }
 {
@@ -143,7 +146,8 @@ pub fn calls_rise(alloc: Global, p: &FlatProgram, ranks: &[u32]) -> Result<bool,
 }
 
 fn row_rises(ranks: &[u32], f: usize, row: &[u32]) -> bool
-    ensures { result ≡ list_all (λ g. nat_lt (slice_index ranks.now f) (slice_index ranks.now g)) row.now }
+    ensures { result
+        ≡ list_all (λ g. nat_lt (slice_index ranks.now f) (slice_index ranks.now g)) row.now }
 {
     let low = rank(ranks, f);
     row.iter().all(|g| low < rank(ranks, *g as usize))

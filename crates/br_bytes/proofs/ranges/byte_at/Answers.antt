@@ -5,7 +5,8 @@ use Rattle.br_bytes.proofs.Changed.{none_found, byte_found}
 use Rattle.br_bytes.proofs.ranges.byte_at.Goals as goal
 
 pub returns-then-i-ranges : goal.returns-then-i-ranges
-returns-then-i-ranges c = sym (none_found c.args.ranges.now c.first_ending-i.result c.args.a c.requires (omega arith) (omega (arith, c.first_ending-i.ensures.below, c.from.ensures)))
+returns-then-i-ranges c = sym (none_found c.args.ranges.now c.first_ending-i.result c.args.a c.requires (omega arith)
+    (omega (arith, c.first_ending-i.ensures.below, c.from.ensures)))
 
 pub returns : goal.returns
 returns c =
@@ -14,4 +15,5 @@ returns c =
     let r = c.index-ranges-i.result in
     let up = ends_at rs (c.from.result + 1) i r (omega arith) c.first_ending-i.ensures.above in
     c.byte.ensures ∙ ap (λ z. byte_in z c.args.a) c.index-ranges-i.is
-    ∙ sym (byte_found rs i c.args.a r c.requires (omega arith) (omega (arith, c.first_ending-i.ensures.below, c.from.ensures)) (omega (arith, up, c.from.ensures)))
+    ∙ sym (byte_found rs i c.args.a r c.requires (omega arith)
+    (omega (arith, c.first_ending-i.ensures.below, c.from.ensures)) (omega (arith, up, c.from.ensures)))

@@ -7,7 +7,8 @@ use Rattle.br_bytes.proofs.ranges.put_byte.Goals as goal
 pub index_mut-requires : goal.index_mut-requires
 index_mut-requires c =
     let below = rw c.as_slice.ensures.value at c.first_ending-i.ensures.below in
-    let in_list = found_within c.args.ranges.now.items c.first_ending-i.result c.args.a c.requires.apart (omega (arith, below, c.from.ensures)) c.requires.there in
+    let in_list = found_within c.args.ranges.now.items c.first_ending-i.result c.args.a c.requires.apart
+    (omega (arith, below, c.from.ensures)) c.requires.there in
     omega (arith, in_list)
 
 pub put-requires-clause-above : goal.put-requires-clause-above
@@ -19,7 +20,8 @@ put-requires-clause-above c =
     let above = rw c.as_slice.ensures.value at c.first_ending-i.ensures.above in
     let in_list = found_within rs i c.args.a c.requires.apart (omega (arith, below, c.from.ensures)) c.requires.there in
     let up = ends_at rs (c.from.result + 1) i d in_list above in
-    subst (λ z. z.start ≤ c.args.a) (sym c.index_mut.ensures.value) (found_start rs i c.args.a d c.requires.apart in_list (omega (arith, below, c.from.ensures)) (omega (arith, up, c.from.ensures)) c.requires.there)
+    subst (λ z. z.start ≤ c.args.a) (sym c.index_mut.ensures.value) (found_start rs i c.args.a d c.requires.apart
+    in_list (omega (arith, below, c.from.ensures)) (omega (arith, up, c.from.ensures)) c.requires.there)
 
 pub put-requires-clause-below : goal.put-requires-clause-below
 put-requires-clause-below c =
@@ -41,5 +43,9 @@ returns c =
     let above = rw c.as_slice.ensures.value at c.first_ending-i.ensures.above in
     let in_list = found_within rs i c.args.a c.requires.apart (omega (arith, below, c.from.ensures)) c.requires.there in
     let up = ends_at rs (c.from.result + 1) i d in_list above in
-    ap (slice_set rs i) (c.put.ensures ∙ ap (λ (z : Range). let y : Range = record { start = z.start; bytes = slice_set z.bytes (c.args.a - z.start) c.args.b } in y) c.index_mut.ensures.value)
-    ∙ with_byte_at rs 0 i c.args.a c.args.b d c.requires.apart in_list (omega (arith, below, c.from.ensures)) (omega (arith, up, c.from.ensures))
+    ap (slice_set rs i) (c.put.ensures ∙ ap (λ (z : Range). let y : Range = record {
+      start = z.start;
+      bytes = slice_set z.bytes (c.args.a - z.start) c.args.b;
+    } in y) c.index_mut.ensures.value)
+    ∙ with_byte_at rs 0 i c.args.a c.args.b d c.requires.apart in_list (omega (arith, below, c.from.ensures))
+    (omega (arith, up, c.from.ensures))

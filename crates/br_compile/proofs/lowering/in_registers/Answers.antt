@@ -12,7 +12,11 @@ with_registers-requires c =
     let sound : IsSound fs = c.program-source.ensures.sound in
     let first = c.in_ok-first in
     let flat : IsFlat c.in_ok-flat.flat.funcs fs =
-    c.in_ok-flat.ensures.flat fs (record { well_formed = first.ensures.well_formed; refines = first.ensures.refines; sizes = first.ensures.sizes }) in
+    c.in_ok-flat.ensures.flat fs (record {
+      well_formed = first.ensures.well_formed;
+      refines = first.ensures.refines;
+      sizes = first.ensures.sizes;
+    }) in
     record { small = are_small fs c.in_ok-flat.flat.funcs flat sound.small }
 
 pub returns-then-is_in_register_form-clause-lowered : goal.returns-then-is_in_register_form-clause-lowered
@@ -20,7 +24,11 @@ returns-then-is_in_register_form-clause-lowered c =
     let fs = c.args.program.now in
     let first = c.in_ok-first in
     let flat : IsFlat c.in_ok-flat.flat.funcs fs =
-    c.in_ok-flat.ensures.flat fs (record { well_formed = first.ensures.well_formed; refines = first.ensures.refines; sizes = first.ensures.sizes }) in
+    c.in_ok-flat.ensures.flat fs (record {
+      well_formed = first.ensures.well_formed;
+      refines = first.ensures.refines;
+      sizes = first.ensures.sizes;
+    }) in
     let passes : Passes = record {
       adds = c.measures_add_up.ensures;
       bounded = c.needs_are_bounded.ensures.bounded;
@@ -28,7 +36,8 @@ returns-then-is_in_register_form-clause-lowered c =
     } in
     let alone = c.in_ok-alone in
     in_registers passes fs c.in_ok-flat.flat.funcs alone.alone.funcs c.program-source.ensures.sound flat
-    alone.ensures.grown alone.ensures.refines (alone.ensures.well_formed, sym c.is_in_register_form.ensures ∙ c.if-is_in_register_form.true)
+    alone.ensures.grown alone.ensures.refines
+    (alone.ensures.well_formed, sym c.is_in_register_form.ensures ∙ c.if-is_in_register_form.true)
 
 pub with_few_names-requires : goal.with_few_names-requires
 with_few_names-requires c =
@@ -36,7 +45,11 @@ with_few_names-requires c =
     let sound : IsSound fs = c.program-source.ensures.sound in
     let first = c.in_ok-first in
     let flat : IsFlat c.in_ok-flat.flat.funcs fs =
-    c.in_ok-flat.ensures.flat fs (record { well_formed = first.ensures.well_formed; refines = first.ensures.refines; sizes = first.ensures.sizes }) in
+    c.in_ok-flat.ensures.flat fs (record {
+      well_formed = first.ensures.well_formed;
+      refines = first.ensures.refines;
+      sizes = first.ensures.sizes;
+    }) in
     record { small = are_small fs c.in_ok-flat.flat.funcs flat sound.small }
 
 pub returns-clause-lowered : goal.returns-clause-lowered
@@ -44,7 +57,11 @@ returns-clause-lowered c =
     let fs = c.args.program.now in
     let first = c.in_ok-first in
     let flat : IsFlat c.in_ok-flat.flat.funcs fs =
-    c.in_ok-flat.ensures.flat fs (record { well_formed = first.ensures.well_formed; refines = first.ensures.refines; sizes = first.ensures.sizes }) in
+    c.in_ok-flat.ensures.flat fs (record {
+      well_formed = first.ensures.well_formed;
+      refines = first.ensures.refines;
+      sizes = first.ensures.sizes;
+    }) in
     let passes : Passes = record {
       adds = c.measures_add_up.ensures;
       bounded = c.needs_are_bounded.ensures.bounded;
@@ -61,8 +78,10 @@ returns-clause-lowered c =
     let qs = spilled.spilled.funcs in
     let few : IsFlat ps fs = named.ensures.flat fs flat in
     let each : SpilledFunctions qs ps =
-    subst (λ rs. SpilledFunctions rs ps) (sym spilled.ensures.program) (c.layouts_fit.ensures.program ps few.well_formed) in
-    in_registers passes fs ps qs c.program-source.ensures.sound few (spilled_grown laws qs ps each) spilled.ensures.refines
+    subst (λ rs. SpilledFunctions rs ps) (sym spilled.ensures.program)
+    (c.layouts_fit.ensures.program ps few.well_formed) in
+    in_registers passes fs ps qs c.program-source.ensures.sound few (spilled_grown laws qs ps each)
+    spilled.ensures.refines
     spilled.ensures.form
 
 pub returns-clause-lean : goal.returns-clause-lean
@@ -70,5 +89,6 @@ returns-clause-lean c =
     let flat = c.in_ok-flat in
     let named = c.in_ok-named in
     let spilled = c.in_ok-spilled in
-    lean spilled.spilled.funcs named.named.funcs spilled.ensures.lean (named.ensures.none_missed flat.ensures.none_missed)
+    lean spilled.spilled.funcs named.named.funcs spilled.ensures.lean
+    (named.ensures.none_missed flat.ensures.none_missed)
     (named.ensures.none_dead flat.ensures.none_dead)

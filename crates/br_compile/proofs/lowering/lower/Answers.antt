@@ -2,7 +2,7 @@ use Rattle.std.proofs.Common.{◌≤◌, length, subst, arith}
 use Rattle.br_syntax.specs.Denotes.{Denotes}
 use Rattle.br_measure.specs.Faults.{IsSound}
 use Rattle.br_compile.specs.Lowered.{IsLowered}
-use Rattle.br_compile.specs.Refusal.{most_bytes}
+use Rattle.br_sexpr.specs.Reads.{most_bytes}
 use Rattle.br_compile.proofs.Unrefused.{Laws, accepted_has_no_fault}
 use Rattle.br_compile.proofs.lowering.lower.Goals as goal
 
@@ -16,12 +16,18 @@ returns-clause-lowered c =
     let made = c.in_ok-made.made in (
       fs,
       ((small, trees, c.in_ok-trees.ensures.trees, denotes), sound),
-      subst (IsLowered made.flat.funcs made.needs.items made.bulk) c.in_ok-checked.ensures.kept c.in_ok-made.ensures.lowered,
+      subst (IsLowered made.flat.funcs made.needs.items made.bulk) c.in_ok-checked.ensures.kept
+          c.in_ok-made.ensures.lowered,
     )
 
 pub returns-clause-unrefused : goal.returns-clause-unrefused
 returns-clause-unrefused c = λ r.
-    let laws : Laws = record { one_reading = c.one_answer.ensures.one_reading; not_both = c.one_answer.ensures.not_both; sound = c.sound_programs_have_no_fault.ensures } in
+    let laws : Laws = record {
+      one_reading = c.one_answer.ensures.one_reading;
+      not_both =
+          c.one_answer.ensures.not_both;
+      sound = c.sound_programs_have_no_fault.ensures;
+    } in
     let trees = c.in_ok-trees.trees in
     let fs = c.in_ok-program.program.funcs in
     let small : length c.args.text.now ≤ most_bytes = omega arith in

@@ -17,7 +17,8 @@ assign-requires c =
     } in
     record {
       formed = wide.ensures.well_formed;
-      count = few-grown wide.wide.funcs ps c.requires.small.each (spilled_grown laws wide.wide.funcs ps wide.ensures.spilled);
+      count = few-grown wide.wide.funcs ps c.requires.small.each
+          (spilled_grown laws wide.wide.funcs ps wide.ensures.spilled);
       proposals = ap length c.as_slice.ensures.value ∙ c.in_ok-proposals.ensures;
     }
 
@@ -45,6 +46,7 @@ returns-clause-lean c missed dead =
     let ps = c.args.p.now.funcs in
     let wide = c.in_ok-wide in
     let named = c.in_ok-named in
-    wide_lean c.wide_layouts_fit.ensures.slots c.spilled_functions_keep_sizes.ensures.buffers named.named.funcs ps c.requires.small.each
+    wide_lean c.wide_layouts_fit.ensures.slots c.spilled_functions_keep_sizes.ensures.buffers named.named.funcs ps
+    c.requires.small.each
     (subst (λ qs. AreAsLean qs ps) wide.ensures.program wide.ensures.lean)
     (subst (KeepLean named.named.funcs) wide.ensures.program named.ensures.lean) missed dead

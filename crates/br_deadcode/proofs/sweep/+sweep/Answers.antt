@@ -1,5 +1,6 @@
 -- A buffer, a conditional and a loop part by part, from the last to the first, and so a list.
-use Rattle.std.proofs.Common.{rules, ℕ, ◌≡◌, ◌+◌, ◌-◌, ◌<◌, ◌≤◌, ◌++◌, ◌||◌, Bool, false, List, [], ◌∷◌, Option, Some, ap, sym, subst, ◌∙◌, map, reverse, take, drop, length, arith}
+use Rattle.std.proofs.Common.{rules, ℕ, ◌≡◌, ◌+◌, ◌-◌, ◌<◌, ◌≤◌, ◌++◌, ◌||◌, Bool, false, List, [], ◌∷◌}
+use Rattle.std.proofs.Common.{Option, Some, ap, sym, subst, ◌∙◌, map, reverse, take, drop, length, arith}
 use denote.Param.Weighed.{most}
 use Rattle.std.proofs.Math.Bool.{or-false}
 use Rattle.br_flatimp.specs.declared.program.Cond.{Cond}
@@ -10,7 +11,7 @@ use Rattle.br_flatimp.specs.declared.program.Stmt.TheVariants.{Stackalloc, If, L
 use Rattle.br_flatimp.specs.Values.{Names}
 use Rattle.br_flatimp.specs.Liveness.{nothing, is_in, union, without, live, before_all, at_test}
 use Rattle.br_live.specs.declared.turn.Turn.{Turn}
-use Rattle.br_live.specs.Own.{own_read, own_written}
+use Rattle.br_flatimp.specs.Parts.{own_read, own_written}
 use Rattle.br_live.specs.Summaries.{handed}
 use Rattle.br_live.specs.Turns.{LoopTurn, all_turns, turns_of, turn_of}
 use Rattle.br_live.proofs.Own.{parts-loop, below-stackalloc, below-if, below-loop, below-item}
@@ -19,7 +20,8 @@ use Rattle.br_live.proofs.Turns.{turn_with, turns-stackalloc, turns-if, turns-lo
 use Rattle.br_live.proofs.Walks.{below_as, turns-next, two-first, popped, never}
 use Rattle.br_live.proofs.Plain.{plain}
 use Rattle.br_deadcode.specs.Sweeps.{idle, sweep, put, before_left, left_of, leaves_of}
-use Rattle.br_deadcode.proofs.Steps.{or_assoc, sweep-plain, own-stackalloc, own-if, sweep-stackalloc, sweep-if, sweep-loop}
+use Rattle.br_deadcode.proofs.Steps.{or_assoc, sweep-plain, own-stackalloc, own-if}
+use Rattle.br_deadcode.proofs.Steps.{sweep-stackalloc, sweep-if, sweep-loop}
 use Rattle.br_deadcode.proofs.sweep.+sweep.Goals as goal
 
 pub sweep_one-sweep_all-requires : goal.sweep_one-sweep_all-requires
@@ -180,7 +182,8 @@ sweep_one-returns-in_ok-body-in-Stackalloc-clause-live t c =
     ∙ rw (c.in-Stackalloc.is, c.as_slice.ensures)
     (own-stackalloc x n body (before_left body a) ∙ sym (sweep-stackalloc x n body a).before)
 
-pub sweep_one-returns-in_ok-body-in-Stackalloc-clause-turns : goal.sweep_one-returns-in_ok-body-in-Stackalloc-clause-turns
+pub sweep_one-returns-in_ok-body-in-Stackalloc-clause-turns :
+    goal.sweep_one-returns-in_ok-body-in-Stackalloc-clause-turns
 sweep_one-returns-in_ok-body-in-Stackalloc-clause-turns t c =
     let b : ℕ = c.args.so_far.now.reads.bound in
     let s : Stmt = c.args.s.now in
@@ -197,7 +200,8 @@ sweep_one-returns-in_ok-body-in-Stackalloc-clause-left t c =
     ap (λ (cs : List Stmt). Some (Stackalloc x n cs)) c.in_ok-body-in-Stackalloc.ensures.left
     ∙ rw (c.in-Stackalloc.is, c.as_slice.ensures) (sym (sweep-stackalloc x n body a).left)
 
-pub sweep_one-returns-in_ok-body-in-Stackalloc-clause-removed : goal.sweep_one-returns-in_ok-body-in-Stackalloc-clause-removed
+pub sweep_one-returns-in_ok-body-in-Stackalloc-clause-removed :
+    goal.sweep_one-returns-in_ok-body-in-Stackalloc-clause-removed
 sweep_one-returns-in_ok-body-in-Stackalloc-clause-removed t c =
     let a : Names = handed c.args.so_far.now nothing in
     let x : ℕ = c.in-Stackalloc.x in

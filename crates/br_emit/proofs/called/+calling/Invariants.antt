@@ -7,7 +7,8 @@ use Rattle.br_flatimp.proofs.program.Stmt.TheLaws.{the_size}
 use Rattle.br_emit.proofs.called.+calling.Given as goal
 
 abbrev pub invariant-mark_calls-loop-s : goal.invariant-mark_calls-loop-s
-invariant-mark_calls-loop-s l = marked l.flags (flat_map (gathered own_callees) (drop l.s-index l.body)) ≡ marked l.initial.flags (flat_map (gathered own_callees) l.body)
+invariant-mark_calls-loop-s l = marked l.flags (flat_map (gathered own_callees) (drop l.s-index l.body))
+    ≡ marked l.initial.flags (flat_map (gathered own_callees) l.body)
 
 abbrev pub decreases-mark_called : goal.decreases-mark_called
 decreases-mark_called l = 4 * the_size l.s.now

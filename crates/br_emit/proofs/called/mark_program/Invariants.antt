@@ -5,4 +5,5 @@ use Rattle.br_emit.specs.Marks.{marked}
 use Rattle.br_emit.proofs.called.mark_program.Given as goal
 
 abbrev pub invariant-loop-f : goal.invariant-loop-f
-invariant-loop-f l = marked l.flags (flat_map callees (drop l.f-index l.funcs)) ≡ marked l.initial.flags (flat_map callees l.funcs)
+invariant-loop-f l =
+    marked l.flags (flat_map callees (drop l.f-index l.funcs)) ≡ marked l.initial.flags (flat_map callees l.funcs)

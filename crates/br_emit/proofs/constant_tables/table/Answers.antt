@@ -11,8 +11,10 @@ pub returns-clause-fit : goal.returns-clause-fit
 returns-clause-fit c =
     let words = table_words c.args.bytes.now in
     let last = Does (Reg Add 1 1 c.args.y) ∷ Does (Load (load_op c.args.size) c.args.x 1 (pos 0)) ∷ [] in
-    fit_both (over_items 1 (length words)) (words ++ last) (subst (λ n. AllFit (over_items 1 n)) c.word_count.ensures c.over.ensures.fit)
-    (fit_both words last c.words.ensures.fit ((omega arith, omega arith, c.requires.offset), ((c.requires.to, omega arith, (grind arith, grind arith)), tt)))
+    fit_both (over_items 1 (length words)) (words ++ last)
+    (subst (λ n. AllFit (over_items 1 n)) c.word_count.ensures c.over.ensures.fit)
+    (fit_both words last c.words.ensures.fit
+    ((omega arith, omega arith, c.requires.offset), ((c.requires.to, omega arith, (grind arith, grind arith)), tt)))
 
 pub returns-clause-code : goal.returns-clause-code
 returns-clause-code c =

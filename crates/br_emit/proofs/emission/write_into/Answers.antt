@@ -26,23 +26,32 @@ pub place_functions-requires-clause-writable : goal.place_functions-requires-cla
 place_functions-requires-clause-writable c =
     let room = c.code.invariant.0 in
     let same = ap (λ v. v.word_room) c.code.view_is in
-    rw c.is_near_program-near.ensures (writable_more (is_near_program c.args.funcs.now) c.args.code.now.word_room (c.code.inside.lengths.room + length c.code.inside.lengths.numbers) c.args.funcs.now (omega (arith, room, same)) c.requires.can_write.each)
+    rw c.is_near_program-near.ensures
+    (writable_more (is_near_program c.args.funcs.now) c.args.code.now.word_room (c.code.inside.lengths.room
+    + length c.code.inside.lengths.numbers) c.args.funcs.now (omega (arith, room, same)) c.requires.can_write.each)
 
 pub place_functions-requires-clause-few : goal.place_functions-requires-clause-few
 place_functions-requires-clause-few c =
     let fs = c.args.funcs.now in
     let flags = c.as_slice-called.result.now in
-    rw c.is_near_program-near.ensures (words_few (forgets_of c.find_forgotten.new.sets) fs flags 1048576 (flags_are fs flags (c.as_slice-called.ensures.value ∙ c.flag_called.ensures.flags)) c.requires.can_write.few)
+    rw c.is_near_program-near.ensures (words_few (forgets_of c.find_forgotten.new.sets) fs flags 1048576
+    (flags_are fs flags (c.as_slice-called.ensures.value ∙ c.flag_called.ensures.flags)) c.requires.can_write.few)
 
 pub write_functions-requires-clause-targets : goal.write_functions-requires-clause-targets
 write_functions-requires-clause-targets c =
     let fs = c.args.funcs.now in
     let flags = c.as_slice-called.result.now in
     let called = flags_are fs flags (c.as_slice-called.ensures.value ∙ c.flag_called.ensures.flags) in
-    let more = map address_of (begins (is_near_program fs) (forgets_of c.find_forgotten.new.sets) (flagged flags) 0 0 fs) in
-    let targets = c.new-targets.ensures ∙ ap (λ q. record { near = q; addresses = c.as_slice.result.now }) c.is_near_program-near.ensures ∙ ap (λ q. record { near = is_near_program fs; addresses = q }) (c.as_slice.ensures ∙ ap (λ q. q.numbers) c.place_functions.ensures.targets
-    ∙ ap (λ b. c.clear.new.self.numbers ++ map address_of (begins b (forgets_of c.find_forgotten.new.sets) (flagged flags) 0 0 fs)) c.is_near_program-near.ensures ∙ ap (λ q. q.numbers ++ more) c.clear.ensures) in
-    (plan (forgets_of c.find_forgotten.new.sets) fs flags c.new-targets.result called c.requires.can_write.few targets).reach
+    let more = map address_of
+    (begins (is_near_program fs) (forgets_of c.find_forgotten.new.sets) (flagged flags) 0 0 fs) in
+    let targets = c.new-targets.ensures
+    ∙ ap (λ q. record { near = q; addresses = c.as_slice.result.now }) c.is_near_program-near.ensures
+    ∙ ap (λ q. record { near = is_near_program fs; addresses = q }) (c.as_slice.ensures
+    ∙ ap (λ q. q.numbers) c.place_functions.ensures.targets
+    ∙ ap (λ b. c.clear.new.self.numbers ++ map address_of (begins b (forgets_of c.find_forgotten.new.sets)
+    (flagged flags) 0 0 fs)) c.is_near_program-near.ensures ∙ ap (λ q. q.numbers ++ more) c.clear.ensures) in
+    (plan (forgets_of c.find_forgotten.new.sets) fs flags c.new-targets.result called c.requires.can_write.few
+    targets).reach
 
 pub write_functions-requires-clause-writable : goal.write_functions-requires-clause-writable
 write_functions-requires-clause-writable c =
@@ -50,18 +59,27 @@ write_functions-requires-clause-writable c =
     let same = ap (λ v. v.word_room) c.code.view_is in
     let kept = c.place_functions.ensures.kept in
     let near = ap (λ q. q.near) c.new-targets.ensures ∙ c.is_near_program-near.ensures in
-    rw near (writable_more (is_near_program c.args.funcs.now) c.args.code.now.word_room (c.place_functions.new.lengths.room + length c.place_functions.new.lengths.numbers) c.args.funcs.now (omega (arith, room, same, kept)) c.requires.can_write.each)
+    rw near (writable_more (is_near_program c.args.funcs.now) c.args.code.now.word_room
+    (c.place_functions.new.lengths.room + length c.place_functions.new.lengths.numbers) c.args.funcs.now
+    (omega (arith, room, same, kept)) c.requires.can_write.each)
 
 pub write_functions-requires-clause-room : goal.write_functions-requires-clause-room
 write_functions-requires-clause-room c =
     let fs = c.args.funcs.now in
     let flags = c.as_slice-called.result.now in
     let called = flags_are fs flags (c.as_slice-called.ensures.value ∙ c.flag_called.ensures.flags) in
-    let more = map address_of (begins (is_near_program fs) (forgets_of c.find_forgotten.new.sets) (flagged flags) 0 0 fs) in
-    let targets = c.new-targets.ensures ∙ ap (λ q. record { near = q; addresses = c.as_slice.result.now }) c.is_near_program-near.ensures ∙ ap (λ q. record { near = is_near_program fs; addresses = q }) (c.as_slice.ensures ∙ ap (λ q. q.numbers) c.place_functions.ensures.targets
-    ∙ ap (λ b. c.clear.new.self.numbers ++ map address_of (begins b (forgets_of c.find_forgotten.new.sets) (flagged flags) 0 0 fs)) c.is_near_program-near.ensures ∙ ap (λ q. q.numbers ++ more) c.clear.ensures) in
-    let words = (plan (forgets_of c.find_forgotten.new.sets) fs flags c.new-targets.result called c.requires.can_write.few targets).words in
-    let few = words_few (forgets_of c.find_forgotten.new.sets) fs flags c.args.code.now.word_room called c.requires.word_room in
+    let more = map address_of
+    (begins (is_near_program fs) (forgets_of c.find_forgotten.new.sets) (flagged flags) 0 0 fs) in
+    let targets = c.new-targets.ensures
+    ∙ ap (λ q. record { near = q; addresses = c.as_slice.result.now }) c.is_near_program-near.ensures
+    ∙ ap (λ q. record { near = is_near_program fs; addresses = q }) (c.as_slice.ensures
+    ∙ ap (λ q. q.numbers) c.place_functions.ensures.targets
+    ∙ ap (λ b. c.clear.new.self.numbers ++ map address_of (begins b (forgets_of c.find_forgotten.new.sets)
+    (flagged flags) 0 0 fs)) c.is_near_program-near.ensures ∙ ap (λ q. q.numbers ++ more) c.clear.ensures) in
+    let words = (plan (forgets_of c.find_forgotten.new.sets) fs flags c.new-targets.result called
+    c.requires.can_write.few targets).words in
+    let few = words_few (forgets_of c.find_forgotten.new.sets) fs flags c.args.code.now.word_room called
+    c.requires.word_room in
     let same = ap (λ v. v.word_room) c.code.view_is in
     omega (arith, words, few, same)
 
@@ -70,10 +88,16 @@ write_functions-requires-clause-few c =
     let fs = c.args.funcs.now in
     let flags = c.as_slice-called.result.now in
     let called = flags_are fs flags (c.as_slice-called.ensures.value ∙ c.flag_called.ensures.flags) in
-    let more = map address_of (begins (is_near_program fs) (forgets_of c.find_forgotten.new.sets) (flagged flags) 0 0 fs) in
-    let targets = c.new-targets.ensures ∙ ap (λ q. record { near = q; addresses = c.as_slice.result.now }) c.is_near_program-near.ensures ∙ ap (λ q. record { near = is_near_program fs; addresses = q }) (c.as_slice.ensures ∙ ap (λ q. q.numbers) c.place_functions.ensures.targets
-    ∙ ap (λ b. c.clear.new.self.numbers ++ map address_of (begins b (forgets_of c.find_forgotten.new.sets) (flagged flags) 0 0 fs)) c.is_near_program-near.ensures ∙ ap (λ q. q.numbers ++ more) c.clear.ensures) in
-    let words = (plan (forgets_of c.find_forgotten.new.sets) fs flags c.new-targets.result called c.requires.can_write.few targets).words in
+    let more = map address_of
+    (begins (is_near_program fs) (forgets_of c.find_forgotten.new.sets) (flagged flags) 0 0 fs) in
+    let targets = c.new-targets.ensures
+    ∙ ap (λ q. record { near = q; addresses = c.as_slice.result.now }) c.is_near_program-near.ensures
+    ∙ ap (λ q. record { near = is_near_program fs; addresses = q }) (c.as_slice.ensures
+    ∙ ap (λ q. q.numbers) c.place_functions.ensures.targets
+    ∙ ap (λ b. c.clear.new.self.numbers ++ map address_of (begins b (forgets_of c.find_forgotten.new.sets)
+    (flagged flags) 0 0 fs)) c.is_near_program-near.ensures ∙ ap (λ q. q.numbers ++ more) c.clear.ensures) in
+    let words = (plan (forgets_of c.find_forgotten.new.sets) fs flags c.new-targets.result called
+    c.requires.can_write.few targets).words in
     let few = words_few (forgets_of c.find_forgotten.new.sets) fs flags 1048576 called c.requires.can_write.few in
     omega (arith, words, few)
 
@@ -86,8 +110,12 @@ returns c =
     let called = flags_are fs flags (c.as_slice-called.ensures.value ∙ c.flag_called.ensures.flags) in
     let more = map address_of (begins (is_near_program fs) forgets (flagged flags) 0 0 fs) in
     let more_offsets = map offset_of (entries (is_near_program fs) forgets (flagged flags) 0 0 fs) in
-    let targets = c.new-targets.ensures ∙ ap (λ q. record { near = q; addresses = c.as_slice.result.now }) c.is_near_program-near.ensures ∙ ap (λ q. record { near = is_near_program fs; addresses = q }) (c.as_slice.ensures ∙ ap (λ q. q.numbers) c.place_functions.ensures.targets
-    ∙ ap (λ b. c.clear.new.self.numbers ++ map address_of (begins b (forgets_of c.find_forgotten.new.sets) (flagged flags) 0 0 fs)) c.is_near_program-near.ensures ∙ ap (λ q. q.numbers ++ more) c.clear.ensures) in
+    let targets = c.new-targets.ensures
+    ∙ ap (λ q. record { near = q; addresses = c.as_slice.result.now }) c.is_near_program-near.ensures
+    ∙ ap (λ q. record { near = is_near_program fs; addresses = q }) (c.as_slice.ensures
+    ∙ ap (λ q. q.numbers) c.place_functions.ensures.targets
+    ∙ ap (λ b. c.clear.new.self.numbers ++ map address_of (begins b (forgets_of c.find_forgotten.new.sets)
+    (flagged flags) 0 0 fs)) c.is_near_program-near.ensures ∙ ap (λ q. q.numbers ++ more) c.clear.ensures) in
     let items = (plan forgets fs flags c.new-targets.result called c.requires.can_write.few targets).items in
     let written = rest_items (aimed c.new-targets.result) forgets (flagged flags) 0 fs in
     let no_words : c.code.inside.code.words ≡ [] = ap (λ v. v.words) c.code.view_is ∙ c.requires.no_words in
@@ -96,10 +124,13 @@ returns c =
       forgets = forgets;
       dead = c.find_forgotten.ensures.dead;
       closed = c.find_forgotten.ensures.closed;
-      code = ap (λ q. q.words) c.write_functions.ensures.code ∙ ap (λ q. q ++ words_at (length q) written) no_words ∙ ap (words_at 0) items;
+      code = ap (λ q. q.words) c.write_functions.ensures.code ∙ ap (λ q. q ++ words_at (length q) written) no_words
+          ∙ ap (words_at 0) items;
       fit = subst AllFit items c.write_functions.ensures.fit;
       entries = ap (λ q. q.numbers) c.place_functions.ensures.offsets
-          ∙ ap (λ b. c.code.inside.offsets.numbers ++ map offset_of (entries b forgets (flagged flags) 0 0 fs)) c.is_near_program-near.ensures ∙ ap (λ q. q ++ more_offsets) no_offsets ∙ offsets_are forgets fs flags called;
+          ∙ ap (λ b. c.code.inside.offsets.numbers ++ map offset_of (entries b forgets (flagged flags) 0 0 fs))
+          c.is_near_program-near.ensures ∙ ap (λ q. q ++ more_offsets) no_offsets
+          ∙ offsets_are forgets fs flags called;
     }
 
 pub invariant_of-code : goal.invariant_of-code
@@ -116,9 +147,14 @@ invariant_of-code c =
     let offsets = ap (λ q. q.room) c.place_functions.ensures.offsets in
     let fs = c.args.funcs.now in
     let called = flagged c.as_slice-called.result.now in
-    let more = map address_of (begins c.is_near_program-near.result (forgets_of c.find_forgotten.new.sets) called 0 0 fs) in
+    let more = map address_of
+    (begins c.is_near_program-near.result (forgets_of c.find_forgotten.new.sets) called 0 0 fs) in
     let room = ap (λ q. q.room) c.place_functions.ensures.targets in
     let long = ap (λ q. length q.numbers) c.place_functions.ensures.targets in
     let cleared = ap (λ q. q.room) c.clear.ensures in
-    let none = ap (λ q. length (q.numbers ++ more)) c.clear.ensures in
-    (omega (arith, words, written, kept, kept2), omega (arith, flags, capacity, offsets), omega (arith, sets_room, sets_capacity, offsets), omega (arith, places, room, long, cleared, none, offsets))
+    let none = ap (λ q. length (q.numbers ++ more)) c.clear.ensures in (
+      omega (arith, words, written, kept, kept2),
+      omega (arith, flags, capacity, offsets),
+      omega (arith, sets_room, sets_capacity, offsets),
+      omega (arith, places, room, long, cleared, none, offsets),
+    )

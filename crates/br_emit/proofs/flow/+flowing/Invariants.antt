@@ -7,7 +7,8 @@ use Rattle.br_emit.specs.Registers.{handed}
 use Rattle.br_emit.proofs.flow.+flowing.Given as goal
 
 abbrev pub invariant-flow_of_all-loop-s : goal.invariant-flow_of_all-loop-s
-invariant-flow_of_all-loop-s l = (after : Names) (x : ℕ) → x < 32 → handed l.so_far (before_all (drop l.s-index l.body) after) x ≡ before_all l.body after x
+invariant-flow_of_all-loop-s l = (after : Names) (x : ℕ) → x < 32
+    → handed l.so_far (before_all (drop l.s-index l.body) after) x ≡ before_all l.body after x
 
 abbrev pub decreases-flow_of : goal.decreases-flow_of
 decreases-flow_of l = 2 * the_size l.s.now

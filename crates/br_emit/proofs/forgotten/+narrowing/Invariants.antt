@@ -12,8 +12,10 @@ invariant-narrow_all-loop-s l = record {
   narrowed : Narrowed l.sets l.initial.sets;
   same : l.within ≡ true → l.sets ≡ l.initial.sets;
   -- what the calls from here on may change is all that is left to look at
-  rest : l.within ≡ true → ((g : ℕ) → is_in (flat_map (gathered own_callees) (drop l.s-index l.body)) g ≡ true → (x : ℕ) → forgets_of l.initial.sets g x ≡ true → has l.allowed x ≡ true)
-      → (g : ℕ) → is_in (flat_map (gathered own_callees) l.body) g ≡ true → (x : ℕ) → forgets_of l.initial.sets g x ≡ true → has l.allowed x ≡ true;
+  rest : l.within ≡ true → ((g : ℕ) → is_in (flat_map (gathered own_callees) (drop l.s-index l.body)) g ≡ true → (x : ℕ)
+      → forgets_of l.initial.sets g x ≡ true → has l.allowed x ≡ true)
+      → (g : ℕ) → is_in (flat_map (gathered own_callees) l.body) g ≡ true → (x : ℕ)
+      → forgets_of l.initial.sets g x ≡ true → has l.allowed x ≡ true;
 }
 
 abbrev pub decreases-narrow : goal.decreases-narrow

@@ -13,7 +13,8 @@ invariant-note_all-loop-k l = record {
   inside : l.k ≤ length l.body;
   narrowed : Narrowed l.sets l.initial.sets;
   living : (end : Names) → Below end (has l.after) → Below (before_all (drop l.k l.body) end) (has l.so_far);
-  dead : (end : Names) → Below end (has l.after) → AllByRecursion (ForgetsDead (forgets_of l.sets)) (moments (map live (drop l.k l.body)) end);
+  dead : (end : Names) → Below end (has l.after)
+      → AllByRecursion (ForgetsDead (forgets_of l.sets)) (moments (map live (drop l.k l.body)) end);
 }
 
 abbrev pub decreases-note_all-loop-k : goal.decreases-note_all-loop-k

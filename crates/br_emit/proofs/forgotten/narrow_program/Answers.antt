@@ -16,11 +16,13 @@ loop-n-preserved c =
     let up : n ≡ n - 1 + 1 = omega (arith, c.loop-n-test.true) in
     record {
       inside = omega (arith, c.loop-n.invariant.inside);
-      narrowed = narrowed_twice c.args.sets.now c.loop-n.sets c.narrow_callees-one.new.sets c.narrow_callees-one.ensures.narrowed c.loop-n.invariant.narrowed;
+      narrowed = narrowed_twice c.args.sets.now c.loop-n.sets c.narrow_callees-one.new.sets
+          c.narrow_callees-one.ensures.narrowed c.loop-n.invariant.narrowed;
       closed = λ e.
           (let p = both_true c.loop-n.steady c.narrow_callees-one.result (sym c.both-steady.ensures ∙ e) in
           subst (λ q. ClosedFrom q fs (n - 1)) (sym (c.narrow_callees-one.ensures.same p.1))
-          (closed_step c.loop-n.sets fs (n - 1) c.index-funcs-n.result c.index-funcs-n.is (c.narrow_callees-one.ensures.closed p.1)
+          (closed_step c.loop-n.sets fs (n - 1) c.index-funcs-n.result c.index-funcs-n.is
+          (c.narrow_callees-one.ensures.closed p.1)
           (subst (ClosedFrom c.loop-n.sets fs) up (c.loop-n.invariant.closed p.0))));
     }
 

@@ -10,7 +10,8 @@ loop-f-init c = λ later less h. h
 
 pub loop-f-preserved : goal.loop-f-preserved
 loop-f-preserved c =
-    noted_step c.args.funcs.now c.loop-f.f-index c.f-item.result c.loop-f.sets c.note_function.new.sets c.loop-f-test.true c.f-item.is c.note_function.ensures.narrowed c.note_function.ensures.dead c.loop-f.invariant
+    noted_step c.args.funcs.now c.loop-f.f-index c.f-item.result c.loop-f.sets c.note_function.new.sets
+    c.loop-f-test.true c.f-item.is c.note_function.ensures.narrowed c.note_function.ensures.dead c.loop-f.invariant
 
 pub returns : goal.returns
 returns c =

@@ -5,7 +5,8 @@ use Rattle.br_flatimp.proofs.program.Stmt.TheLaws.{the_size}
 use Rattle.br_emit.proofs.functions.+nesting.Given as goal
 
 abbrev pub invariant-nest_all-loop-s : goal.invariant-nest_all-loop-s
-invariant-nest_all-loop-s l = max l.most (largest (map statement_nest (drop l.s-index l.body))) ≡ largest (map statement_nest l.body)
+invariant-nest_all-loop-s l =
+    max l.most (largest (map statement_nest (drop l.s-index l.body))) ≡ largest (map statement_nest l.body)
 
 abbrev pub decreases-nest_of : goal.decreases-nest_of
 decreases-nest_of l = 4 * the_size l.s.now

@@ -9,7 +9,8 @@ use Rattle.br_emit.proofs.functions.ended.Goals as goal
 pub returns-clause-fit : goal.returns-clause-fit
 returns-clause-fit c =
     let body = all_items (aimed c.args.targets.now) c.args.body.now c.args.buffers in
-    fit_both (constant_items 2 (0x80300000 - c.args.buffers)) (body ++ Does Ecall ∷ []) c.constant.ensures.fit (fit_both body (Does Ecall ∷ []) c.write_all.ensures.fit (tt, tt))
+    fit_both (constant_items 2 (0x80300000 - c.args.buffers)) (body ++ Does Ecall ∷ []) c.constant.ensures.fit
+    (fit_both body (Does Ecall ∷ []) c.write_all.ensures.fit (tt, tt))
 
 pub returns-clause-code : goal.returns-clause-code
 returns-clause-code c =
@@ -17,4 +18,5 @@ returns-clause-code c =
     let stack = constant_items 2 (0x80300000 - c.args.buffers) in
     let body = all_items (aimed c.args.targets.now) c.args.body.now c.args.buffers in
     let w2 = c.write_all.ensures.code ∙ ap (λ q. appended q body) c.constant.ensures.code in
-    c.put.ensures ∙ ap (λ q. appended q (Does Ecall ∷ [])) w2 ∙ appended_twice (appended w stack) body (Does Ecall ∷ []) ∙ appended_twice w stack (body ++ Does Ecall ∷ [])
+    c.put.ensures ∙ ap (λ q. appended q (Does Ecall ∷ [])) w2 ∙ appended_twice (appended w stack) body (Does Ecall ∷ [])
+    ∙ appended_twice w stack (body ++ Does Ecall ∷ [])

@@ -4,6 +4,11 @@ use Rattle.br_emit.proofs.laws.direct_entries_show_calls.Goals as goal
 
 pub returns : goal.returns
 returns c =
-    let table : Table = record { small = c.instructions_and_words_match.ensures.word; decoded = c.instructions_and_words_match.ensures.decoded } in
+    let table : Table = record {
+      small = c.instructions_and_words_match.ensures.word;
+      decoded =
+          c.instructions_and_words_match.ensures.decoded;
+    } in
     λ l n f place need all there placed few low_is room more fuel args count words m data_is answers words' j left.
-    direct_shown (world l table c.steps_make_machines.ensures) n f place all need fuel there placed few room more low_is args count words m data_is answers words' j left
+    direct_shown (world l table c.steps_make_machines.ensures) n f place all need fuel there placed few room more low_is
+    args count words m data_is answers words' j left

@@ -7,7 +7,8 @@ use Rattle.br_flatimp.proofs.program.Stmt.TheLaws.{the_size}
 use Rattle.br_emit.proofs.linking.+linking.Given as goal
 
 abbrev pub invariant-keeps_all-loop-s : goal.invariant-keeps_all-loop-s
-invariant-keeps_all-loop-s l = (l.kept && list_all (throughout keeps_link) (drop l.s-index l.body)) ≡ list_all (throughout keeps_link) l.body
+invariant-keeps_all-loop-s l =
+    (l.kept && list_all (throughout keeps_link) (drop l.s-index l.body)) ≡ list_all (throughout keeps_link) l.body
 
 abbrev pub decreases-keeps : goal.decreases-keeps
 decreases-keeps l = 4 * the_size l.s.now

@@ -8,7 +8,8 @@ use Rattle.br_emit.proofs.measuring.+measuring.Given as goal
 abbrev pub invariant-measure_all-loop-s : goal.invariant-measure_all-loop-s
 invariant-measure_all-loop-s l = record {
   words : l.words + (sized_all l.near (drop l.s-index l.body) l.free).words ≡ (sized_all l.near l.body l.free).words;
-  noted : noted l.lengths (sized_all l.near (drop l.s-index l.body) l.free).parts ≡ noted l.initial.lengths (sized_all l.near l.body l.free).parts;
+  noted : noted l.lengths (sized_all l.near (drop l.s-index l.body) l.free).parts
+      ≡ noted l.initial.lengths (sized_all l.near l.body l.free).parts;
   room : length (sized_all l.near (drop l.s-index l.body) l.free).parts ≤ l.lengths.room;
 }
 

@@ -1,4 +1,5 @@
-use Rattle.std.proofs.Common.{◌≡◌, ◌≤◌, ◌∙◌, ◌&&◌, ◌||◌, ◌++◌, ◌∷◌, [], not, if◌then◌else◌, Bool, true, false, List, ℕ, length, refl, sym, ap, subst, arith}
+use Rattle.std.proofs.Common.{◌≡◌, ◌≤◌, ◌∙◌, ◌&&◌, ◌||◌, ◌++◌, ◌∷◌, [], not, if◌then◌else◌}
+use Rattle.std.proofs.Common.{Bool, true, false, List, ℕ, length, refl, sym, ap, subst, arith}
 use Rattle.std.specs.Prelude.{filter}
 use Rattle.br_flatimp.specs.Parts.{written, own_callees}
 use Rattle.br_emit.specs.Code.{changes, touches, registers, saves}
@@ -22,11 +23,14 @@ pub returns : goal.returns
 returns c =
     let forgets = forgets_of c.args.sets.now in
     let f = c.args.f.now in
-    let changed : has c.changed_by_all.result 1 ≡ changes forgets f 1 = c.changed_by_all.ensures 1 (omega arith) ∙ ap (λ q. changes_at forgets (own_gathered written q) (own_gathered own_callees q) 1) c.as_slice.ensures in
+    let changed : has c.changed_by_all.result 1 ≡ changes forgets f 1 = c.changed_by_all.ensures 1 (omega arith)
+    ∙ ap (λ q. changes_at forgets (own_gathered written q) (own_gathered own_callees q) 1) c.as_slice.ensures in
     let link : c.either.result ≡ touches c.args.near forgets f 1 =
-    c.either.ensures ∙ ap (λ b. b || c.links-own.result) (c.contains-changes.ensures ∙ changed) ∙ ap (λ b. changes forgets f 1 || b) c.links-own.ensures in
+    c.either.ensures ∙ ap (λ b. b || c.links-own.result) (c.contains-changes.ensures ∙ changed)
+    ∙ ap (λ b. changes forgets f 1 || b) c.links-own.ensures in
     c.in_order.ensures
     ∙ ap (λ q. q ++ filter (has c.saved.result) registers) c.first.ensures
-    ∙ ap (λ q. (if c.either.result then 1 ∷ [] else []) ++ q) (saves_from c.saved.result forgets c.args.n f c.saved.ensures)
+    ∙ ap (λ q. (if c.either.result then 1 ∷ [] else []) ++ q)
+    (saves_from c.saved.result forgets c.args.n f c.saved.ensures)
     ∙ after c.either.result (saves forgets c.args.n f)
     ∙ ap (λ b. if b then 1 ∷ saves forgets c.args.n f else saves forgets c.args.n f) link

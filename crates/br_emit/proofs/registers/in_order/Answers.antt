@@ -6,6 +6,8 @@ use Rattle.br_emit.proofs.registers.in_order.Goals as goal
 
 pub loop-r-preserved : goal.loop-r-preserved
 loop-r-preserved c = record {
-  found = keep_more (has c.args.set) c.loop-r.found c.keep.new.found (c.args.before ++ filter (has c.args.set) registers) c.loop-r.r c.loop-r-test.true c.keep.ensures c.loop-r.invariant.found;
-  few = keep_few (has c.args.set c.loop-r.r) c.loop-r.found c.keep.new.found c.loop-r.r c.keep.ensures c.loop-r.invariant.few;
+  found = keep_more (has c.args.set) c.loop-r.found c.keep.new.found (c.args.before
+      ++ filter (has c.args.set) registers) c.loop-r.r c.loop-r-test.true c.keep.ensures c.loop-r.invariant.found;
+  few = keep_few (has c.args.set c.loop-r.r) c.loop-r.found c.keep.new.found c.loop-r.r c.keep.ensures
+      c.loop-r.invariant.few;
 }

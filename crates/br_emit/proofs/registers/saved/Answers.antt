@@ -15,5 +15,6 @@ returns c =
     ∙ ap (λ q. has c.without-kept.result r && not (has q r)) c.set_at.ensures
     ∙ ap (λ b. b && not (forgets c.args.n r))
     (c.without-kept.ensures r
-    ∙ ap (λ b. b && not (has c.all_of.result r)) (c.changed_by_all-changed.ensures r inside ∙ ap (λ q. changes_at forgets (own_gathered written q) (own_gathered own_callees q) r) c.as_slice.ensures)
+    ∙ ap (λ b. b && not (has c.all_of.result r)) (c.changed_by_all-changed.ensures r inside
+    ∙ ap (λ q. changes_at forgets (own_gathered written q) (own_gathered own_callees q) r) c.as_slice.ensures)
     ∙ ap (λ b. changes forgets f r && not b) (c.all_of.ensures r inside ∙ ap (λ q. is_in q r) c.as_slice-2.ensures))

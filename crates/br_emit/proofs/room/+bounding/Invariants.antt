@@ -5,7 +5,8 @@ use Rattle.br_flatimp.proofs.program.Stmt.TheLaws.{the_size}
 use Rattle.br_emit.proofs.room.+bounding.Given as goal
 
 abbrev pub invariant-most_all-loop-s : goal.invariant-most_all-loop-s
-invariant-most_all-loop-s l = l.words + sum (map statement_bulk (drop l.s-index l.body)) ≡ sum (map statement_bulk l.body)
+invariant-most_all-loop-s l =
+    l.words + sum (map statement_bulk (drop l.s-index l.body)) ≡ sum (map statement_bulk l.body)
 
 abbrev pub decreases-most_of : goal.decreases-most_of
 decreases-most_of l = 4 * the_size l.s.now

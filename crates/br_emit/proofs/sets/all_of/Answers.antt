@@ -10,10 +10,12 @@ loop-x-init c = λ y below. ap (λ b. b || is_in c.args.xs.now y) (has-nothing y
 
 pub loop-x-preserved : goal.loop-x-preserved
 loop-x-preserved c =
-    set_step c.args.xs.now c.loop-x.x-index c.loop-x.set c.union-set.result c.just.result (get_or c.args.xs.now c.loop-x.x-index 0) (is_in c.args.xs.now)
+    set_step c.args.xs.now c.loop-x.x-index c.loop-x.set c.union-set.result c.just.result
+    (get_or c.args.xs.now c.loop-x.x-index 0) (is_in c.args.xs.now)
     c.loop-x-test.true refl c.union-set.ensures c.just.ensures c.loop-x.invariant
 
 pub returns : goal.returns
 returns c = λ y below.
     (let none : drop c.loop-x.x-index c.args.xs.now ≡ [] = grind (arith, common_steps) in
-    sym (or_false (has c.loop-x.set y)) ∙ ap (λ q. has c.loop-x.set y || is_in q y) (sym none) ∙ c.loop-x.invariant y below)
+    sym (or_false (has c.loop-x.set y)) ∙ ap (λ q. has c.loop-x.set y || is_in q y) (sym none)
+    ∙ c.loop-x.invariant y below)

@@ -11,11 +11,15 @@ use Rattle.br_emit.proofs.writing.+writing.Given as goal
 
 abbrev pub invariant-write_all-loop-s : goal.invariant-write_all-loop-s
 invariant-write_all-loop-s l = record {
-  ready : Ready (all_items (aimed l.targets) (drop l.s-index l.body) l.free) (sized_all l.targets.near (drop l.s-index l.body) l.free).parts l.code l.lengths;
-  code : appended l.code (all_items (aimed l.targets) (drop l.s-index l.body) l.free) ≡ appended l.initial.code (all_items (aimed l.targets) l.body l.free);
-  fit : AllFit (all_items (aimed l.targets) (drop l.s-index l.body) l.free) → AllFit (all_items (aimed l.targets) l.body l.free);
+  ready : Ready (all_items (aimed l.targets) (drop l.s-index l.body) l.free)
+      (sized_all l.targets.near (drop l.s-index l.body) l.free).parts l.code l.lengths;
+  code : appended l.code (all_items (aimed l.targets) (drop l.s-index l.body) l.free)
+      ≡ appended l.initial.code (all_items (aimed l.targets) l.body l.free);
+  fit : AllFit (all_items (aimed l.targets) (drop l.s-index l.body) l.free)
+      → AllFit (all_items (aimed l.targets) l.body l.free);
   form : IsTrue (list_all (throughout is_encodable) (drop l.s-index l.body));
-  lengths : drop (length (sized_all l.targets.near (drop l.s-index l.body) l.free).parts) l.lengths ≡ drop (length (sized_all l.targets.near l.body l.free).parts) l.initial.lengths;
+  lengths : drop (length (sized_all l.targets.near (drop l.s-index l.body) l.free).parts) l.lengths
+      ≡ drop (length (sized_all l.targets.near l.body l.free).parts) l.initial.lengths;
 }
 
 abbrev pub decreases-write : goal.decreases-write

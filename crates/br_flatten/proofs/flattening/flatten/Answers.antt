@@ -3,12 +3,7 @@ use Rattle.br_syntax.specs.NameFaults.{HasNoNameFault}
 use Rattle.br_syntax.specs.Shape.{IsShaped}
 use Rattle.br_measure.specs.Bulk.{bulk}
 use Rattle.br_simplify.specs.Simple.{simple_program}
-use Rattle.br_flatimp.specs.Refines.{Refines, meaning}
-use Rattle.br_flatimp.specs.WellFormed.{IsWellFormed}
-use Rattle.br_flatten.specs.Flatten.{flat_program}
-use Rattle.br_flatten.specs.Meaning.{source_meaning}
-use Rattle.br_flatten.specs.Places.{first_places}
-use Rattle.br_flatten.specs.Sized.{AreSized}
+use Rattle.br_flatten.specs.Programs.{AreFlat}
 use Rattle.br_flatten.proofs.Simple.{Laws, smaller, simple-refines, simple-well_formed, simple-sized}
 use Rattle.br_flatten.proofs.flattening.flatten.Goals as goal
 
@@ -27,7 +22,8 @@ flat_functions-requires c =
     let same : c.as_slice-source.result.now ≡ ps = c.as_slice-source.ensures ∙ c.program.ensures.functions in
     let sound = c.program.ensures.sound in
     let shaped : IsShaped ps = subst IsShaped c.program.ensures.functions c.program.result.now.shaped in
-    let simple : c.as_slice.result.now ≡ simple_program ps = c.as_slice.ensures ∙ c.in_ok-simple.ensures ∙ ap simple_program same in
+    let simple : c.as_slice.result.now ≡ simple_program ps = c.as_slice.ensures ∙ c.in_ok-simple.ensures
+    ∙ ap simple_program same in
     record {
       names = subst HasNoNameFault (sym simple) (laws.names ps sound.names);
       limits = subst IsShaped (sym simple) (laws.limits ps shaped);
@@ -49,8 +45,9 @@ returns-clause-program c =
     let same : c.as_slice-source.result.now ≡ ps = c.as_slice-source.ensures ∙ c.program.ensures.functions in
     let sound = c.program.ensures.sound in
     let shaped : IsShaped ps = subst IsShaped c.program.ensures.functions c.program.result.now.shaped in
-    let simple : c.as_slice.result.now ≡ simple_program ps = c.as_slice.ensures ∙ c.in_ok-simple.ensures ∙ ap simple_program same in
-    let made : c.in_ok-funcs.funcs ≡ flat_program first_places (simple_program ps) = c.in_ok-funcs.ensures ∙ ap (flat_program first_places) simple in
+    let simple : c.as_slice.result.now ≡ simple_program ps = c.as_slice.ensures ∙ c.in_ok-simple.ensures
+    ∙ ap simple_program same in
+    let made = subst (λ fs. AreFlat fs fs c.in_ok-funcs.funcs) simple c.in_ok-funcs.ensures in
     made
 
 pub returns-clause-refines : goal.returns-clause-refines
@@ -68,9 +65,10 @@ returns-clause-refines c =
     let same : c.as_slice-source.result.now ≡ ps = c.as_slice-source.ensures ∙ c.program.ensures.functions in
     let sound = c.program.ensures.sound in
     let shaped : IsShaped ps = subst IsShaped c.program.ensures.functions c.program.result.now.shaped in
-    let simple : c.as_slice.result.now ≡ simple_program ps = c.as_slice.ensures ∙ c.in_ok-simple.ensures ∙ ap simple_program same in
-    let made : c.in_ok-funcs.funcs ≡ flat_program first_places (simple_program ps) = c.in_ok-funcs.ensures ∙ ap (flat_program first_places) simple in
-    subst (λ q. Refines (meaning q) (source_meaning ps)) (sym made) (simple-refines laws ps sound.names)
+    let simple : c.as_slice.result.now ≡ simple_program ps = c.as_slice.ensures ∙ c.in_ok-simple.ensures
+    ∙ ap simple_program same in
+    let made = subst (λ fs. AreFlat fs fs c.in_ok-funcs.funcs) simple c.in_ok-funcs.ensures in
+    simple-refines laws ps c.in_ok-funcs.funcs sound.names made
 
 pub returns-clause-well_formed : goal.returns-clause-well_formed
 returns-clause-well_formed c =
@@ -87,9 +85,10 @@ returns-clause-well_formed c =
     let same : c.as_slice-source.result.now ≡ ps = c.as_slice-source.ensures ∙ c.program.ensures.functions in
     let sound = c.program.ensures.sound in
     let shaped : IsShaped ps = subst IsShaped c.program.ensures.functions c.program.result.now.shaped in
-    let simple : c.as_slice.result.now ≡ simple_program ps = c.as_slice.ensures ∙ c.in_ok-simple.ensures ∙ ap simple_program same in
-    let made : c.in_ok-funcs.funcs ≡ flat_program first_places (simple_program ps) = c.in_ok-funcs.ensures ∙ ap (flat_program first_places) simple in
-    subst IsWellFormed (sym made) (simple-well_formed laws ps sound.names shaped sound.small)
+    let simple : c.as_slice.result.now ≡ simple_program ps = c.as_slice.ensures ∙ c.in_ok-simple.ensures
+    ∙ ap simple_program same in
+    let made = subst (λ fs. AreFlat fs fs c.in_ok-funcs.funcs) simple c.in_ok-funcs.ensures in
+    simple-well_formed laws ps c.in_ok-funcs.funcs sound.names shaped sound.small made
 
 pub returns-clause-sizes : goal.returns-clause-sizes
 returns-clause-sizes c =
@@ -106,6 +105,7 @@ returns-clause-sizes c =
     let same : c.as_slice-source.result.now ≡ ps = c.as_slice-source.ensures ∙ c.program.ensures.functions in
     let sound = c.program.ensures.sound in
     let shaped : IsShaped ps = subst IsShaped c.program.ensures.functions c.program.result.now.shaped in
-    let simple : c.as_slice.result.now ≡ simple_program ps = c.as_slice.ensures ∙ c.in_ok-simple.ensures ∙ ap simple_program same in
-    let made : c.in_ok-funcs.funcs ≡ flat_program first_places (simple_program ps) = c.in_ok-funcs.ensures ∙ ap (flat_program first_places) simple in
-    subst (AreSized ps ps) (sym made) (simple-sized laws ps sound.names shaped)
+    let simple : c.as_slice.result.now ≡ simple_program ps = c.as_slice.ensures ∙ c.in_ok-simple.ensures
+    ∙ ap simple_program same in
+    let made = subst (λ fs. AreFlat fs fs c.in_ok-funcs.funcs) simple c.in_ok-funcs.ensures in
+    simple-sized laws ps c.in_ok-funcs.funcs sound.names shaped made

@@ -1,18 +1,33 @@
-use Rattle.std.proofs.Common.{ap, ◌∙◌, ◌++◌, map, refl}
-use Rattle.br_flatten.specs.Flatten.{number, commands}
-use Rattle.br_flatten.specs.Numbering.{listed}
-use Rattle.br_flatten.proofs.Members.{function-made}
+use Rattle.std.proofs.Common.{[], ◌≤◌, length, subst, sym, arith}
+use Rattle.br_flatten.proofs.Members.{plain-made, chosen-made, holding-names}
 use Rattle.br_flatten.proofs.flattening.function.Goals as goal
+
+pub returns-then-is_empty : goal.returns-then-is_empty
+returns-then-is_empty c =
+    plain-made c.args.functions.now.funcs.now c.args.f.now c.in_ok-variables.variables
+    c.in_ok-plain.plain c.in_ok-variables.ensures c.in_ok-plain.ensures
+
+pub holding-requires-clause-names : goal.holding-requires-clause-names
+holding-requires-clause-names c =
+    holding-names c.args.functions.now.funcs.now c.args.f.now c.in_ok-variables.variables [] 4294967295
+    c.in_ok-variables.ensures (c.requires.names [] (omega arith))
+
+pub holding-requires-2-clause-names : goal.holding-requires-2-clause-names
+holding-requires-2-clause-names c =
+    let few = subst (λ ns. length ns ≤ 8) (sym c.as_slice-3.ensures) c.in_ok-held.ensures in
+    holding-names c.args.functions.now.funcs.now c.args.f.now c.in_ok-variables.variables
+    c.as_slice-3.result.now 4294967295
+    c.in_ok-variables.ensures (c.requires.names c.as_slice-3.result.now few)
+
+pub returns-then-is_no_larger : goal.returns-then-is_no_larger
+returns-then-is_no_larger c =
+    let few = subst (λ ns. length ns ≤ 8) (sym c.as_slice-3.ensures) c.in_ok-held.ensures in
+    chosen-made c.args.functions.now.funcs.now c.args.f.now c.in_ok-variables.variables
+    c.as_slice-3.result.now c.in_ok-chosen.chosen c.in_ok-plain.plain
+    c.in_ok-variables.ensures c.in_ok-chosen.ensures c.in_ok-plain.ensures few
+    (c.is_no_larger.ensures c.if-is_no_larger.true)
 
 pub returns : goal.returns
 returns c =
-    let fs = c.args.functions.now.funcs.now in
-    let f = c.args.f.now in
-    let ns = listed c.in_ok-variables.variables.names in
-    let args = c.in_ok-args.ensures ∙ ap (map (number ns)) c.as_slice.ensures in
-    let results = c.in_ok-results.ensures ∙ ap (map (number ns)) c.as_slice-2.ensures in
-    let body = c.in_ok-commands.ensures ∙ ap (λ out. out ++ commands fs ns c.as_slice-3.result.now) c.new-body.ensures ∙ ap (commands fs ns) c.as_slice-3.ensures in
-    function-made fs f c.in_ok-copy.field-0 ns c.in_ok-args.args c.in_ok-results.results c.commands.new.out c.max-names.result
-    c.in_ok-copy.ensures c.in_ok-variables.ensures args results body
-    (rw (c.max-names.ensures, c.max-passed.ensures, c.above.ensures, c.above-2.ensures, c.above_statements.ensures, c.as_slice-4.ensures, c.as_slice-5.ensures, c.as_slice-6.ensures) refl)
-    c.requires.names
+    plain-made c.args.functions.now.funcs.now c.args.f.now c.in_ok-variables.variables
+    c.in_ok-plain.plain c.in_ok-variables.ensures c.in_ok-plain.ensures

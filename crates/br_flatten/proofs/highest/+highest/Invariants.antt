@@ -7,4 +7,5 @@ use Rattle.br_flatten.proofs.highest.+highest.Given as goal
 
 abbrev pub invariant-above_statements-loop-s : goal.invariant-above_statements-loop-s
 invariant-above_statements-loop-s l =
-    max l.most (min (above (flat_map statement_names (drop l.s-index l.body))) 4294967295) ≡ min (above (flat_map statement_names l.body)) 4294967295
+    max l.most (min (above (flat_map statement_names (drop l.s-index l.body))) 4294967295)
+    ≡ min (above (flat_map statement_names l.body)) 4294967295

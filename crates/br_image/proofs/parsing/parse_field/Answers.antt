@@ -11,5 +11,6 @@ pub returns-in_err-number-clause-none : goal.returns-in_err-number-clause-none
 returns-in_err-number-clause-none c = IfNone-holds c.from_residual-in_err-number.result
     (λ n rest below e.
     let found = c.in_ok-digits.ensures.found in
-    let digits = field_digits c.args.bytes.now c.in_ok-digits.digits.now c.in_ok-digits.rest.now rest n found.1 (omega arith) found.0 e in
+    let digits = field_digits c.args.bytes.now c.in_ok-digits.digits.now c.in_ok-digits.rest.now rest n found.1
+    (omega arith) found.0 e in
     c.in_err-number.ensures.none n below digits)

@@ -19,8 +19,10 @@ pub returns-else-eq-clause-none : goal.returns-else-eq-clause-none
 returns-else-eq-clause-none c w small e =
     let read = decode-word c.args.digits.now w small e in
     let done = rw read at c.decode_to_slice.ensures.value in
-    let word : c.from_be_bytes-word.result ≡ w = c.from_be_bytes-word.ensures ∙ (ap (from_be_bytes w32) done.1 ∙ from_be_bytes-to_be_bytes_4 w small) in
-    let same : c.as_slice.result.now ≡ c.args.digits.now = c.as_slice.ensures ∙ (c.word_digits.ensures ∙ (ap word_text word ∙ sym e)) in
+    let word : c.from_be_bytes-word.result ≡ w = c.from_be_bytes-word.ensures
+    ∙ (ap (from_be_bytes w32) done.1 ∙ from_be_bytes-to_be_bytes_4 w small) in
+    let same : c.as_slice.result.now ≡ c.args.digits.now = c.as_slice.ensures
+    ∙ (c.word_digits.ensures ∙ (ap word_text word ∙ sym e)) in
     let equal = (bytes_decides c.as_slice.result.now c.args.digits.now).1 same in
     let test = c.if-eq.ensures in
     absurd cc

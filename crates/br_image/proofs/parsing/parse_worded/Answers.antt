@@ -8,7 +8,8 @@ use Rattle.br_image.proofs.parsing.parse_worded.Goals as goal
 pub returns-then-eq : goal.returns-then-eq
 returns-then-eq c =
     let P : List ℕ → Type 0 = λ t. IsLineOf c.args.layout (t ++ 32 ∷ c.args.rest.now) c.parse_version.result in
-    subst P (sym (same_text c.args.first.now c.as_slice.result.now _ c.if-eq.ensures c.as_slice.ensures)) (c.parse_version.ensures c.args.layout)
+    subst P (sym (same_text c.args.first.now c.as_slice.result.now _ c.if-eq.ensures c.as_slice.ensures))
+    (c.parse_version.ensures c.args.layout)
 
 pub returns-then-eq-2 : goal.returns-then-eq-2
 returns-then-eq-2 c =

@@ -13,7 +13,8 @@ returns-in_err-line-clause-refused c =
 pub returns-in_default : goal.returns-in_default
 returns-in_default c = record {
   image = tt;
-  refused = first_order_fault c.args.text.now c.in_ok-line.at c.in_ok-line.line c.in_ok-line.ensures.form c.in_ok-line.ensures.found c.in_default.not-Header;
+  refused = first_order_fault c.args.text.now c.in_ok-line.at c.in_ok-line.line c.in_ok-line.ensures.form
+      c.in_ok-line.ensures.found c.in_default.not-Header;
 }
 
 pub overflow_cast-result : goal.overflow_cast-result
@@ -36,11 +37,13 @@ overflow_add-result c =
 
 pub returns-in-Some-clause-refused : goal.returns-in-Some-clause-refused
 returns-in-Some-clause-refused c =
-    let P : ℕ → Type 0 = λ n. WordsRead c.in-Header.layout c.args.text.now c.in_ok-head.head.entries n c.in_ok-code.code c.in_ok-code.at in
+    let P : ℕ → Type 0 = λ n.
+    WordsRead c.in-Header.layout c.args.text.now c.in_ok-head.head.entries n c.in_ok-code.code c.in_ok-code.at in
     let read = subst P (sym c.in_ok-code.ensures.all) c.in_ok-code.ensures.read in
     let whole = rw (c.as_slice.ensures, c.as_slice-2.ensures) at c.in_ok-read_end.ensures.read in
     let bad = rw (c.as_slice-3.ensures, c.len.ensures) at c.in-Some.ensures.found in
-    offset_fault c.in-Header.layout c.args.text.now c.in_ok-head.head.entries c.in_ok-code.code c.in_ok-code.at c.in-Some.place read whole bad
+    offset_fault c.in-Header.layout c.args.text.now c.in_ok-head.head.entries c.in_ok-code.code c.in_ok-code.at
+    c.in-Some.place read whole bad
 
 pub returns-in-None-clause-image : goal.returns-in-None-clause-image
 returns-in-None-clause-image c =

@@ -10,7 +10,8 @@ returns-in_err-line-clause-refused c =
     let count = c.loop-i.invariant.1 in
     let entries = c.len.ensures in
     let same : c.len.result + c.loop-i.i ≡ length c.args.head.now.entries + length c.loop-i.code = omega arith in
-    rw (p.1, p.2) (words_line_fault c.args.layout c.args.text.now c.args.head.now.entries c.args.head.now.count c.loop-i.code c.loop-i.at (c.len.result + c.loop-i.i)
+    rw (p.1, p.2) (words_line_fault c.args.layout c.args.text.now c.args.head.now.entries c.args.head.now.count
+    c.loop-i.code c.loop-i.at (c.len.result + c.loop-i.i)
     c.in_err-line.field-0.0 c.loop-i.invariant.0 same c.in_err-line.ensures.refused)
 
 pub returns-in_default : goal.returns-in_default
@@ -23,9 +24,11 @@ returns-in_default c =
     record {
       read = tt;
       all = tt;
-      refused = words_order_fault c.args.layout c.args.text.now c.args.head.now.entries c.args.head.now.count c.loop-i.code c.loop-i.at c.in_ok-line.next (c.len.result + c.loop-i.i)
+      refused = words_order_fault c.args.layout c.args.text.now c.args.head.now.entries c.args.head.now.count
+          c.loop-i.code c.loop-i.at c.in_ok-line.next (c.len.result + c.loop-i.i)
           c.in_ok-line.line c.loop-i.invariant.0 same c.in_ok-line.ensures.form c.in_ok-line.ensures.found
-          (word_misplaced c.args.layout c.args.head.now.entries c.args.head.now.count c.loop-i.code c.in_ok-line.line room c.in_default.not-Word);
+          (word_misplaced c.args.layout c.args.head.now.entries c.args.head.now.count c.loop-i.code c.in_ok-line.line
+          room c.in_default.not-Word);
     }
 
 pub loop-i-preserved : goal.loop-i-preserved
@@ -38,8 +41,10 @@ loop-i-preserved c =
     let room : length c.loop-i.code < c.args.head.now.count = omega arith in
     let pushed = c.in_ok-push.ensures.ok in
     let len = ap length pushed ∙ length-append c.loop-i.code (c.in-Word.word ∷ []) in
-    let P : List ℕ → Type 0 = λ t. WordsRead c.args.layout c.args.text.now c.args.head.now.entries c.args.head.now.count t c.in_ok-line.next in (
-      subst P (sym pushed) (word_more c.args.layout c.args.text.now c.args.head.now.entries c.args.head.now.count c.loop-i.code c.in-Word.word c.loop-i.at c.in_ok-line.next
+    let P : List ℕ → Type 0 = λ t.
+    WordsRead c.args.layout c.args.text.now c.args.head.now.entries c.args.head.now.count t c.in_ok-line.next in (
+      subst P (sym pushed) (word_more c.args.layout c.args.text.now c.args.head.now.entries c.args.head.now.count
+          c.loop-i.code c.in-Word.word c.loop-i.at c.in_ok-line.next
           c.loop-i.invariant.0 form found place.0 place.1 room),
       omega arith,
     )

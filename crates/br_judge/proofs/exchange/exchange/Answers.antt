@@ -18,7 +18,8 @@ pub returns-in-Over-None : goal.returns-in-Over-None
 returns-in-Over-None c =
     let over = c.in-Over-None.is ∙ ap Over c.in-Over-None.field-0-is in
     rw c.in-Put.is
-    (put_steps c.args.byte c.in-Put.left c.args.e (Over None) (subst (Waits TX c.in-Put.left c.args.e) over c.wait.ensures))
+    (put_steps c.args.byte c.in-Put.left c.args.e (Over None)
+    (subst (Waits TX c.in-Put.left c.args.e) over c.wait.ensures))
 
 pub returns-in-Departs : goal.returns-in-Departs
 returns-in-Departs c = rw c.in-Put.is (put_steps c.args.byte c.in-Put.left c.args.e Departs c.in-Departs.ensures)
@@ -34,4 +35,5 @@ pub returns-in-Over-None-wait : goal.returns-in-Over-None-wait
 returns-in-Over-None-wait c =
     let over = c.in-Over-None-wait.is ∙ ap Over c.in-Over-None-wait.field-0-is in
     rw c.in-Get.is
-    (get_steps c.args.byte c.in-Get.left c.args.e (Over None) (subst (Waits RX c.in-Get.left c.args.e) over c.wait-in-Get.ensures))
+    (get_steps c.args.byte c.in-Get.left c.args.e (Over None)
+    (subst (Waits RX c.in-Get.left c.args.e) over c.wait-in-Get.ensures))

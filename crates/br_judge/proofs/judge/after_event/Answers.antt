@@ -11,8 +11,10 @@ returns-in-On c =
 
 pub returns-in-Over : goal.returns-in-Over
 returns-in-Over c rest =
-    let steps = subst (λ b. Transfers b c.args.at c.args.e (Over c.in-Over.outcome)) c.bytes_for.ensures c.in-Over.ensures in
-    iff_trans (transfer_steps c.args.purpose c.args.at c.args.e (Over c.in-Over.outcome) steps rest) (c.after_transfer.ensures rest)
+    let steps = subst (λ b. Transfers b c.args.at c.args.e (Over c.in-Over.outcome)) c.bytes_for.ensures
+    c.in-Over.ensures in
+    iff_trans (transfer_steps c.args.purpose c.args.at c.args.e (Over c.in-Over.outcome) steps rest)
+    (c.after_transfer.ensures rest)
 
 pub returns-in-Departs : goal.returns-in-Departs
 returns-in-Departs c =

@@ -9,4 +9,5 @@ returns-then-is_write c = rw c.in-Pin.is (pin_steps c.in-Pin.v c.args.e (c.if-is
 
 pub returns-in-Between : goal.returns-in-Between
 returns-in-Between c rest =
-    rw c.in-Between.is (iff_trans (polls_first-to c.args.e rest, polls_first-from _) (c.after_event-in-Between.ensures rest))
+    rw c.in-Between.is
+    (iff_trans (polls_first-to c.args.e rest, polls_first-from _) (c.after_event-in-Between.ensures rest))

@@ -9,7 +9,8 @@ use Rattle.br_judge.proofs.Boots.{good-to, good-from}
 use Rattle.br_judge.proofs.Ahead.{ahead, stands_after}
 use Rattle.br_judge.proofs.laws.places_stand.Goals as goal
 
-begins : (p : Place) (es : List Event) → p ≢ Outside → At p es → (p ≡ Outside) ⊎ ((rest : List Event) × MayFollow p rest) → BeginsGood es
+begins : (p : Place) (es : List Event) → p ≢ Outside → At p es
+    → (p ≡ Outside) ⊎ ((rest : List Event) × MayFollow p rest) → BeginsGood es
 begins p es inside at (inl is) = absurd (inside is)
 begins p es inside at (inr (rest, m)) = (rest, (at rest).1 m)
 

@@ -9,5 +9,6 @@ pub returns-then-sent-lt6 : goal.returns-then-sent-lt6
 returns-then-sent-lt6 c bytes seven o rest =
     let within : c.args.sent + 1 < length bytes = omega arith in
     let next : c.args.sent + 1 ≡ suc c.args.sent = add-one c.args.sent in
-    subst (λ q. transferring (drop q bytes) c.args.value o rest ↔ transfer bytes (Byte (c.args.sent + 1) c.args.value (Put 999)) o rest) next
+    subst (λ q. transferring (drop q bytes) c.args.value o rest
+    ↔ transfer bytes (Byte (c.args.sent + 1) c.args.value (Put 999)) o rest) next
     (transferring_more bytes (c.args.sent + 1) c.args.value within o rest)

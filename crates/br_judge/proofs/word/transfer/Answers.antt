@@ -11,18 +11,22 @@ returns-then-is_write c =
 
 pub returns-in-On : goal.returns-in-On
 returns-in-On c =
-    let steps = subst (λ b. Exchanges b c.in-Byte.inner c.args.e (On c.in-On.inner)) c.byte_at.ensures c.in-On.ensures in
-    rw c.in-Byte.is (byte_steps c.args.bytes.now c.in-Byte.sent c.in-Byte.value c.in-Byte.inner c.args.e (On c.in-On.inner) steps)
+    let steps = subst (λ b. Exchanges b c.in-Byte.inner c.args.e (On c.in-On.inner)) c.byte_at.ensures
+    c.in-On.ensures in
+    rw c.in-Byte.is
+    (byte_steps c.args.bytes.now c.in-Byte.sent c.in-Byte.value c.in-Byte.inner c.args.e (On c.in-On.inner) steps)
 
 pub returns-in-Over-Some : goal.returns-in-Over-Some
 returns-in-Over-Some c o rest =
     let over = c.in-Over-Some.is ∙ ap Over c.in-Over-Some.field-0-is in
-    let steps : Exchanges (get_or c.args.bytes.now c.in-Byte.sent 0) c.in-Byte.inner c.args.e (Over (Some c.in-Over-Some.r)) =
+    let steps : Exchanges (get_or c.args.bytes.now c.in-Byte.sent 0) c.in-Byte.inner c.args.e
+    (Over (Some c.in-Over-Some.r)) =
     subst (λ b. Exchanges b c.in-Byte.inner c.args.e (Over (Some c.in-Over-Some.r))) c.byte_at.ensures
     (subst (Exchanges c.byte_at.result c.in-Byte.inner c.args.e) over c.exchange.ensures) in
     rw c.in-Byte.is
     (iff_trans
-    (byte_steps c.args.bytes.now c.in-Byte.sent c.in-Byte.value c.in-Byte.inner c.args.e (Over (Some c.in-Over-Some.r)) steps o rest)
+    (byte_steps c.args.bytes.now c.in-Byte.sent c.in-Byte.value c.in-Byte.inner c.args.e
+    (Over (Some c.in-Over-Some.r)) steps o rest)
     (rw c.with_byte.ensures at (c.next_byte.ensures c.args.bytes.now c.told-bytes o rest)))
 
 pub returns-in-Over-None : goal.returns-in-Over-None
@@ -31,7 +35,8 @@ returns-in-Over-None c =
     let steps : Exchanges (get_or c.args.bytes.now c.in-Byte.sent 0) c.in-Byte.inner c.args.e (Over None) =
     subst (λ b. Exchanges b c.in-Byte.inner c.args.e (Over None)) c.byte_at.ensures
     (subst (Exchanges c.byte_at.result c.in-Byte.inner c.args.e) over c.exchange.ensures) in
-    rw c.in-Byte.is (byte_steps c.args.bytes.now c.in-Byte.sent c.in-Byte.value c.in-Byte.inner c.args.e (Over None) steps)
+    rw c.in-Byte.is
+    (byte_steps c.args.bytes.now c.in-Byte.sent c.in-Byte.value c.in-Byte.inner c.args.e (Over None) steps)
 
 pub returns-in-Departs : goal.returns-in-Departs
 returns-in-Departs c =

@@ -5,5 +5,6 @@ use Rattle.br_listing.proofs.lines.list.Given as goal
 
 abbrev pub invariant-loop-place : goal.invariant-loop-place
 invariant-loop-place l =
-    l.text.items ++ flat_map (lines_at l.image.layout l.image.entries) (enumerate_from l.place (drop l.place l.word-items))
+    l.text.items
+    ++ flat_map (lines_at l.image.layout l.image.entries) (enumerate_from l.place (drop l.place l.word-items))
     ≡ flat_map (lines_at l.image.layout l.image.entries) (enumerate_from 0 l.word-items)

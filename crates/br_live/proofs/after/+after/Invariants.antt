@@ -13,8 +13,11 @@ invariant-add_sets_of_all-loop-k l = record {
   inside : l.k ≤ length l.body;
   bound : l.so_far.reads.bound ≡ l.initial.so_far.reads.bound;
   names : handed l.so_far nothing ≡ before_all (drop l.k l.body) (handed l.initial.so_far nothing);
-  turns : (rest : List LoopTurn) → map turn_of l.initial.turns.items ≡ rest ++ all_turns l.initial.so_far.reads.bound l.body → map turn_of l.turns.items ≡ rest ++ all_turns l.initial.so_far.reads.bound (take l.k l.body);
-  sets : map row l.sets.items ≡ map row l.initial.sets.items ++ reverse (rows_after l.initial.so_far.reads.bound (moments (map live (drop l.k l.body)) (handed l.initial.so_far nothing)));
+  turns : (rest : List LoopTurn)
+      → map turn_of l.initial.turns.items ≡ rest ++ all_turns l.initial.so_far.reads.bound l.body
+      → map turn_of l.turns.items ≡ rest ++ all_turns l.initial.so_far.reads.bound (take l.k l.body);
+  sets : map row l.sets.items ≡ map row l.initial.sets.items ++ reverse (rows_after l.initial.so_far.reads.bound
+      (moments (map live (drop l.k l.body)) (handed l.initial.so_far nothing)));
 }
 
 abbrev pub decreases-add_sets_of_all-loop-k : goal.decreases-add_sets_of_all-loop-k

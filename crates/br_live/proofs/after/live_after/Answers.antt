@@ -20,7 +20,12 @@ returns c =
     ∙ ap is_in c.as_slice-2.ensures in
     let backward : map row c.add_sets_of_all.new.sets.items ≡ reverse (rows_after b (function_moments c.args.f.now)) =
     c.in_ok-add_sets_of_all.ensures.sets
-    ∙ ap (λ (xs : List BitSet). map row xs ++ reverse (rows_after c.own.new.self.reads.bound (moments (map live c.as_slice-3.result.now) (handed c.own.new.self nothing)))) c.new-sets.ensures.items
-    ∙ ap (λ (ss : List Stmt). reverse (rows_after c.own.new.self.reads.bound (moments (map live ss) (handed c.own.new.self nothing)))) c.as_slice-3.ensures
-    ∙ same-rows (moments (map live body)) _ b _ (is_in results) (c.own.ensures.bound ∙ c.in_ok-so_far.ensures.bound) end in
-    c.from_sets.ensures ∙ ap (map row) c.turn_around.ensures ∙ turned_back c.add_sets_of_all.new.sets.items (rows_after b (function_moments c.args.f.now)) backward
+    ∙ ap (λ (xs : List BitSet). map row xs ++ reverse (rows_after c.own.new.self.reads.bound
+    (moments (map live c.as_slice-3.result.now) (handed c.own.new.self nothing)))) c.new-sets.ensures.items
+    ∙ ap (λ (ss : List Stmt).
+    reverse (rows_after c.own.new.self.reads.bound (moments (map live ss) (handed c.own.new.self nothing))))
+    c.as_slice-3.ensures
+    ∙ same-rows (moments (map live body)) _ b _ (is_in results)
+    (c.own.ensures.bound ∙ c.in_ok-so_far.ensures.bound) end in
+    c.from_sets.ensures ∙ ap (map row) c.turn_around.ensures
+    ∙ turned_back c.add_sets_of_all.new.sets.items (rows_after b (function_moments c.args.f.now)) backward

@@ -10,5 +10,6 @@ invariant-loop-k l = record {
   done : (x : ℕ) → x / 32 < l.k → members l.words x ≡ joined l.how (members l.initial.words x) (members l.others x);
   rest : (j : ℕ) → l.k ≤ j → get_or l.words j 0 ≡ get_or l.initial.words j 0;
   same : l.changed ≡ false → l.words ≡ l.initial.words;
-  changed : l.changed ≡ true → (j : ℕ) × (j < l.k) × (((i : ℕ) → i < 32 → (bit_at (get_or l.words j 0) i == 1) ≡ (bit_at (get_or l.initial.words j 0) i == 1)) → ⊥);
+  changed : l.changed ≡ true → (j : ℕ) × (j < l.k)
+      × (((i : ℕ) → i < 32 → (bit_at (get_or l.words j 0) i == 1) ≡ (bit_at (get_or l.initial.words j 0) i == 1)) → ⊥);
 }

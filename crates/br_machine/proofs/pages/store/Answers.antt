@@ -11,7 +11,8 @@ returns-clause-bytes c =
     let first : ℕ → ℕ = first_byte l code c.args.junk in
     bytes_in-set l code c.args.junk c.args.pages.now.items c.put.new.pages.items c.args.place c.args.b c.requires.inside
     (c.put.ensures.there (first c.args.place))
-    (λ q not. c.put.ensures.others (q / 4096) (q % 4096) (first q) (λ e. not (omega arith)) (omega arith) ∙ c.make.ensures.bytes q)
+    (λ q not. c.put.ensures.others (q / 4096) (q % 4096) (first q) (λ e. not (omega arith)) (omega arith)
+    ∙ c.make.ensures.bytes q)
 
 pub returns-clause-made : goal.returns-clause-made
 returns-clause-made c = c.put.ensures.made ∙ c.make.ensures.made

@@ -13,9 +13,11 @@ returns-in-Waiting c =
     let start = at_start c.args.m.now.state c.args.answers.now c.args.trace.now.events in
     let how = Waiting c.in-Waiting.a in
     let e : Ended start c.args.limit c.step.new.self.state c.loop.trace how =
-    HasRun-end start c.loop.counter c.args.limit c.loop.taken c.loop.m.state c.step.new.self.state c.args.answers.now c.loop.trace how
+    HasRun-end start c.loop.counter c.args.limit c.loop.taken c.loop.m.state c.step.new.self.state c.args.answers.now
+    c.loop.trace how
     c.loop.invariant.0 (omega arith)
-    (next_step-is c.loop.m.state c.step.new.self.state c.answer_at.result c.args.answers.now c.loop.taken c.loop.trace.events how c.answer_at.ensures c.in-Waiting.ensures.machine c.in-Waiting.ensures.end)
+    (next_step-is c.loop.m.state c.step.new.self.state c.answer_at.result c.args.answers.now c.loop.taken
+    c.loop.trace.events how c.answer_at.ensures c.in-Waiting.ensures.machine c.in-Waiting.ensures.end)
     refl refl in
     record {
       machine = e.machine;
@@ -30,9 +32,11 @@ returns-in-Halted c =
     let start = at_start c.args.m.now.state c.args.answers.now c.args.trace.now.events in
     let how = Halted in
     let e : Ended start c.args.limit c.step.new.self.state c.loop.trace how =
-    HasRun-end start c.loop.counter c.args.limit c.loop.taken c.loop.m.state c.step.new.self.state c.args.answers.now c.loop.trace how
+    HasRun-end start c.loop.counter c.args.limit c.loop.taken c.loop.m.state c.step.new.self.state c.args.answers.now
+    c.loop.trace how
     c.loop.invariant.0 (omega arith)
-    (next_step-is c.loop.m.state c.step.new.self.state c.answer_at.result c.args.answers.now c.loop.taken c.loop.trace.events how c.answer_at.ensures c.in-Halted.ensures.machine c.in-Halted.ensures.end)
+    (next_step-is c.loop.m.state c.step.new.self.state c.answer_at.result c.args.answers.now c.loop.taken
+    c.loop.trace.events how c.answer_at.ensures c.in-Halted.ensures.machine c.in-Halted.ensures.end)
     refl refl in
     record {
       machine = e.machine;
@@ -47,9 +51,11 @@ returns-in-Trapped c =
     let start = at_start c.args.m.now.state c.args.answers.now c.args.trace.now.events in
     let how = Trapped c.in-Trapped.trap c.in-Trapped.pc in
     let e : Ended start c.args.limit c.step.new.self.state c.loop.trace how =
-    HasRun-end start c.loop.counter c.args.limit c.loop.taken c.loop.m.state c.step.new.self.state c.args.answers.now c.loop.trace how
+    HasRun-end start c.loop.counter c.args.limit c.loop.taken c.loop.m.state c.step.new.self.state c.args.answers.now
+    c.loop.trace how
     c.loop.invariant.0 (omega arith)
-    (next_step-is c.loop.m.state c.step.new.self.state c.answer_at.result c.args.answers.now c.loop.taken c.loop.trace.events how c.answer_at.ensures c.in-Trapped.ensures.machine c.in-Trapped.ensures.end)
+    (next_step-is c.loop.m.state c.step.new.self.state c.answer_at.result c.args.answers.now c.loop.taken
+    c.loop.trace.events how c.answer_at.ensures c.in-Trapped.ensures.machine c.in-Trapped.ensures.end)
     refl refl in
     record {
       machine = e.machine;
@@ -65,17 +71,24 @@ loop-preserved c =
     let all = c.args.answers.now in
     elim c.match-step.branch [
       | in-Ran w ↦ (
-        HasRun-step start c.loop.counter c.loop.taken c.match-step.taken c.loop.m.state c.step.new.self.state all c.loop.trace c.match-step.trace (Ran) c.loop.invariant.0
-            (next_step-is c.loop.m.state c.step.new.self.state c.answer_at.result all c.loop.taken c.loop.trace.events (Ran) c.answer_at.ensures w.in-Ran.ensures.machine w.in-Ran.ensures.end)
-            (same_moment c.step.new.self.state _ _ _ _ (ap (λ n. drop n all) (sym w.taken-is)) (ap (λ (t : Recorded). t.events) (sym w.trace-is))),
+        HasRun-step start c.loop.counter c.loop.taken c.match-step.taken c.loop.m.state c.step.new.self.state all
+            c.loop.trace c.match-step.trace (Ran) c.loop.invariant.0
+            (next_step-is c.loop.m.state c.step.new.self.state c.answer_at.result all c.loop.taken c.loop.trace.events
+            (Ran) c.answer_at.ensures w.in-Ran.ensures.machine w.in-Ran.ensures.end)
+            (same_moment c.step.new.self.state _ _ _ _ (ap (λ n. drop n all) (sym w.taken-is))
+            (ap (λ (t : Recorded). t.events) (sym w.trace-is))),
         (let r = ap (λ (t : Recorded). t.room) w.trace-is in omega arith),
         ap (λ (t : Recorded). t.room + length t.events) w.trace-is ∙ c.loop.invariant.2,
         omega arith,
       )
       | in-Read w ↦ (
-        HasRun-step start c.loop.counter c.loop.taken c.match-step.taken c.loop.m.state c.step.new.self.state all c.loop.trace c.match-step.trace (Read w.in-Read.a w.in-Read.v) c.loop.invariant.0
-            (next_step-is c.loop.m.state c.step.new.self.state c.answer_at.result all c.loop.taken c.loop.trace.events (Read w.in-Read.a w.in-Read.v) c.answer_at.ensures w.in-Read.ensures.machine w.in-Read.ensures.end)
-            (same_moment c.step.new.self.state _ _ _ _ (drop_one-drop all c.loop.taken ∙ ap (λ n. drop n all) (sym w.taken-is)) (ap (λ (t : Recorded). t.events) (sym (w.trace-is ∙ w.push.ensures)))),
+        HasRun-step start c.loop.counter c.loop.taken c.match-step.taken c.loop.m.state c.step.new.self.state all
+            c.loop.trace c.match-step.trace (Read w.in-Read.a w.in-Read.v) c.loop.invariant.0
+            (next_step-is c.loop.m.state c.step.new.self.state c.answer_at.result all c.loop.taken c.loop.trace.events
+            (Read w.in-Read.a w.in-Read.v) c.answer_at.ensures w.in-Read.ensures.machine w.in-Read.ensures.end)
+            (same_moment
+            c.step.new.self.state _ _ _ _ (drop_one-drop all c.loop.taken ∙ ap (λ n. drop n all) (sym w.taken-is))
+            (ap (λ (t : Recorded). t.events) (sym (w.trace-is ∙ w.push.ensures)))),
         (let r = ap (λ (t : Recorded). t.room) (w.trace-is ∙ w.push.ensures) in omega arith),
         (let e = w.trace-is ∙ w.push.ensures in
             let r = ap (λ (t : Recorded). t.room) e in
@@ -84,9 +97,12 @@ loop-preserved c =
         omega arith,
       )
       | in-Wrote w ↦ (
-        HasRun-step start c.loop.counter c.loop.taken c.match-step.taken c.loop.m.state c.step.new.self.state all c.loop.trace c.match-step.trace (Wrote w.in-Wrote.a w.in-Wrote.v) c.loop.invariant.0
-            (next_step-is c.loop.m.state c.step.new.self.state c.answer_at.result all c.loop.taken c.loop.trace.events (Wrote w.in-Wrote.a w.in-Wrote.v) c.answer_at.ensures w.in-Wrote.ensures.machine w.in-Wrote.ensures.end)
-            (same_moment c.step.new.self.state _ _ _ _ (ap (λ n. drop n all) (sym w.taken-is)) (ap (λ (t : Recorded). t.events) (sym (w.trace-is ∙ w.push-in-Wrote.ensures)))),
+        HasRun-step start c.loop.counter c.loop.taken c.match-step.taken c.loop.m.state c.step.new.self.state all
+            c.loop.trace c.match-step.trace (Wrote w.in-Wrote.a w.in-Wrote.v) c.loop.invariant.0
+            (next_step-is c.loop.m.state c.step.new.self.state c.answer_at.result all c.loop.taken c.loop.trace.events
+            (Wrote w.in-Wrote.a w.in-Wrote.v) c.answer_at.ensures w.in-Wrote.ensures.machine w.in-Wrote.ensures.end)
+            (same_moment c.step.new.self.state _ _ _ _ (ap (λ n. drop n all) (sym w.taken-is))
+            (ap (λ (t : Recorded). t.events) (sym (w.trace-is ∙ w.push-in-Wrote.ensures)))),
         (let r = ap (λ (t : Recorded). t.room) (w.trace-is ∙ w.push-in-Wrote.ensures) in omega arith),
         (let e = w.trace-is ∙ w.push-in-Wrote.ensures in
             let r = ap (λ (t : Recorded). t.room) e in

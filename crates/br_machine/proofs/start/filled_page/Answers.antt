@@ -19,7 +19,9 @@ loop-i-preserved c = record {
         | inl p ↦ get_or-set_other bytes c.loop-i.i k v 0 (omega arith) ∙ c.loop-i.invariant.told k p
         | inr p ↦
             (let same : k ≡ c.loop-i.i = omega arith in
-            ap (slice_index (slice_set bytes c.loop-i.i v)) same ∙ get_or-set_same bytes c.loop-i.i v 0 (omega arith) ∙ c.start_byte.ensures
-            ∙ ap (λ j. start_byte c.args.layout c.args.code.now c.args.memory.now c.args.junk (page_size * c.args.page + j)) (sym same))
+            ap (slice_index (slice_set bytes c.loop-i.i v)) same ∙ get_or-set_same bytes c.loop-i.i v 0 (omega arith)
+            ∙ c.start_byte.ensures
+            ∙ ap (λ j. start_byte c.args.layout c.args.code.now c.args.memory.now c.args.junk
+            (page_size * c.args.page + j)) (sym same))
       ];
 }

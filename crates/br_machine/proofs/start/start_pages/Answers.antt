@@ -1,5 +1,6 @@
 -- One page more.
-use Rattle.std.proofs.Common.{◌≡◌, ◌↔◌, ℕ, ◌+◌, ◌*◌, ◌<◌, List, [], ◌∷◌, ◌++◌, length, length-append, Option, None, true, sym, ap, subst, arith}
+use Rattle.std.proofs.Common.{◌≡◌, ◌↔◌, ℕ, ◌+◌, ◌*◌, ◌<◌, List, [], ◌∷◌, ◌++◌, length}
+use Rattle.std.proofs.Common.{length-append, Option, None, true, sym, ap, subst, arith}
 use Rattle.std.specs.Prelude.{is_some, slice_index_or}
 use Rattle.br_machine.specs.Pages.{HasAddressIn, page_size}
 use Rattle.br_machine.specs.Kept.{first_byte, in_page, start_byte}
@@ -22,10 +23,13 @@ loop-page-preserved c =
     record {
       count = omega (arith, ap length e, length-append old (x ∷ []), inv.count);
       told = λ page i h small.
-          subst (λ (ps : List (Option (List ℕ))). in_page (slice_index_or ps page None) i (first page i) ≡ start page i) (sym e)
+          subst (λ (ps : List (Option (List ℕ))). in_page (slice_index_or ps page None) i (first page i) ≡ start page i)
+          (sym e)
           (one_page_more (λ q o. (i : ℕ) → i < page_size → in_page o i (first q i) ≡ start q i) old x n inv.count
           (λ q h i s. inv.told q i h s) c.start_page.ensures.bytes page h i small);
       made = λ page h.
-          subst (λ (ps : List (Option (List ℕ))). (is_some (slice_index_or ps page None) ≡ true) ↔ HasAddressIn m l page) (sym e)
-          (one_page_more (λ q o. (is_some o ≡ true) ↔ HasAddressIn m l q) old x n inv.count inv.made c.start_page.ensures.made page h);
+          subst (λ (ps : List (Option (List ℕ))). (is_some (slice_index_or ps page None) ≡ true)
+          ↔ HasAddressIn m l page) (sym e)
+          (one_page_more (λ q o. (is_some o ≡ true) ↔ HasAddressIn m l q) old x n inv.count inv.made
+          c.start_page.ensures.made page h);
     }

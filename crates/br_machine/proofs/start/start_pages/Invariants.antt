@@ -9,6 +9,8 @@ abbrev pub invariant-loop-page : goal.invariant-loop-page
 invariant-loop-page l = record {
   count : length l.pages.items ≡ l.page;
   told : (page i : ℕ) → page < l.page → i < page_size →
-      in_page (slice_index_or l.pages.items page None) i (first_byte l.layout l.code l.junk (page_size * page + i)) ≡ start_byte l.layout l.code l.memory l.junk (page_size * page + i);
-  made : (page : ℕ) → page < l.page → (is_some (slice_index_or l.pages.items page None) ≡ true) ↔ HasAddressIn l.memory l.layout page;
+      in_page (slice_index_or l.pages.items page None) i (first_byte l.layout l.code l.junk (page_size * page + i))
+      ≡ start_byte l.layout l.code l.memory l.junk (page_size * page + i);
+  made : (page : ℕ) → page < l.page
+      → (is_some (slice_index_or l.pages.items page None) ≡ true) ↔ HasAddressIn l.memory l.layout page;
 }

@@ -13,8 +13,11 @@ use Rattle.br_machine.proofs.Starts.{IsKept-start, bytes_in-start}
 use Rattle.br_machine.proofs.start.start_ram.Goals as goal
 
 -- what pages make is what the start has
-same : (l : Layout) (code words : List ℕ) (m : Memory) (junk : ℕ) (pages : List (Option (List ℕ))) → words ≡ code → bytes_in l code junk pages ≡ start_ram l code m (junk_of junk)
-    → (let kept : Kept = record { layout = l; code = words; bytes = bytes_in l words junk pages; made = map is_some pages } in kept ≡ record { layout = l; code = code; bytes = start_ram l code m (junk_of junk); made = map is_some pages })
+same : (l : Layout) (code words : List ℕ) (m : Memory) (junk : ℕ) (pages : List (Option (List ℕ))) → words ≡ code
+    → bytes_in l code junk pages ≡ start_ram l code m (junk_of junk)
+    → (let kept : Kept =
+    record { layout = l; code = words; bytes = bytes_in l words junk pages; made = map is_some pages } in
+    kept ≡ record { layout = l; code = code; bytes = start_ram l code m (junk_of junk); made = map is_some pages })
 same l code words m junk pages e bytes =
     let of : List ℕ → List ℕ → Kept = λ x y. record { layout = l; code = x; bytes = y; made = map is_some pages } in
     ap (λ x. of x (bytes_in l x junk pages)) e ∙ ap (of code) bytes
@@ -25,10 +28,13 @@ of-requires c =
     let code = c.args.code.now in
     let m = c.args.memory.now in
     let pages = c.in_ok-pages.pages.items in
-    let e : c.extend_from_slice.new.self.items ≡ code = c.in_ok-extend_from_slice.ensures.items ∙ ap (λ (x : List ℕ). x ++ code) c.in_ok-words.ensures.items in
+    let e : c.extend_from_slice.new.self.items ≡ code = c.in_ok-extend_from_slice.ensures.items
+    ∙ ap (λ (x : List ℕ). x ++ code) c.in_ok-words.ensures.items in
     subst IsKept (sym (same l code c.extend_from_slice.new.self.items m c.args.junk pages e
-    (bytes_in-start l code m c.args.junk pages c.requires.words c.ranges.junk.fits c.requires.memory c.in_ok-pages.ensures.bytes)))
-    (IsKept-start l code m c.args.junk (map is_some pages) c.requires.words c.ranges.junk.fits c.requires.memory (length-map pages is_some ∙ c.in_ok-pages.ensures.count))
+    (bytes_in-start l code m c.args.junk pages c.requires.words c.ranges.junk.fits c.requires.memory
+    c.in_ok-pages.ensures.bytes)))
+    (IsKept-start l code m c.args.junk (map is_some pages) c.requires.words c.ranges.junk.fits c.requires.memory
+    (length-map pages is_some ∙ c.in_ok-pages.ensures.count))
 
 pub returns-clause-bytes : goal.returns-clause-bytes
 returns-clause-bytes c =
@@ -36,10 +42,12 @@ returns-clause-bytes c =
     let code = c.args.code.now in
     let m = c.args.memory.now in
     let pages = c.in_ok-pages.pages.items in
-    let e : c.extend_from_slice.new.self.items ≡ code = c.in_ok-extend_from_slice.ensures.items ∙ ap (λ (x : List ℕ). x ++ code) c.in_ok-words.ensures.items in
+    let e : c.extend_from_slice.new.self.items ≡ code = c.in_ok-extend_from_slice.ensures.items
+    ∙ ap (λ (x : List ℕ). x ++ code) c.in_ok-words.ensures.items in
     ap (λ (k : Kept). k.bytes)
     (c.of.ensures ∙ same l code c.extend_from_slice.new.self.items m c.args.junk pages e
-    (bytes_in-start l code m c.args.junk pages c.requires.words c.ranges.junk.fits c.requires.memory c.in_ok-pages.ensures.bytes))
+    (bytes_in-start l code m c.args.junk pages c.requires.words c.ranges.junk.fits c.requires.memory
+    c.in_ok-pages.ensures.bytes))
 
 pub returns-clause-made : goal.returns-clause-made
 returns-clause-made c = λ page h.

@@ -7,5 +7,6 @@ use Rattle.br_measure.proofs.calls.+calls.Given as goal
 
 abbrev pub invariant-commands-loop-c : goal.invariant-commands-loop-c
 invariant-commands-loop-c l =
-    l.found ++ numbers_named l.index.funcs.now (joined (map (fold-Cmd (List (List ℕ)) callees_step) (drop l.c-index l.cs)))
+    l.found ++ numbers_named l.index.funcs.now
+    (joined (map (fold-Cmd (List (List ℕ)) callees_step) (drop l.c-index l.cs)))
     ≡ l.initial.found ++ numbers_named l.index.funcs.now (joined (map (fold-Cmd (List (List ℕ)) callees_step) l.cs))

@@ -6,4 +6,5 @@ use Rattle.br_measure.proofs.calls.call_table.Given as goal
 
 abbrev pub invariant-loop-f : goal.invariant-loop-f
 invariant-loop-f l =
-    l.table ++ map (λ f. numbers_named l.index.funcs.now (callees f)) (drop l.f-index l.index.funcs.now) ≡ call_table l.index.funcs.now
+    l.table ++ map (λ f. numbers_named l.index.funcs.now (callees f)) (drop l.f-index l.index.funcs.now)
+    ≡ call_table l.index.funcs.now

@@ -6,5 +6,6 @@ use Rattle.br_measure.proofs.measures.measures.Given as goal
 abbrev pub invariant-loop-round : goal.invariant-loop-round
 invariant-loop-round l = record {
   len : length l.needs.items ≡ length l.funcs;
-  needs : (f : ℕ) → slice_index l.needs.items f ≡ min (measure_within l._round l.funcs (slice_get l.funcs f)) 4294967295;
+  needs : (f : ℕ) → slice_index l.needs.items f
+      ≡ min (measure_within l._round l.funcs (slice_get l.funcs f)) 4294967295;
 }

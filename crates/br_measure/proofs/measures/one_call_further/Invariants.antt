@@ -7,5 +7,6 @@ use Rattle.br_measure.proofs.measures.one_call_further.Given as goal
 abbrev pub invariant-loop-f : goal.invariant-loop-f
 invariant-loop-f l = record {
   len : length l.after.items ≡ l.f;
-  needs : (f : ℕ) → f < l.f → slice_index l.after.items f ≡ min (slice_index l.own f + largest (map (λ g. slice_index l.needs g) (row l.table f))) 4294967295;
+  needs : (f : ℕ) → f < l.f → slice_index l.after.items f
+      ≡ min (slice_index l.own f + largest (map (λ g. slice_index l.needs g) (row l.table f))) 4294967295;
 }

@@ -6,5 +6,6 @@ use Rattle.br_measure.proofs.names.bodies.Given as goal
 
 abbrev pub invariant-loop-f : goal.invariant-loop-f
 invariant-loop-f l =
-    lower l.fault (lowest (joined (map (λ f. commands_faults l.index.funcs.now f.body) (drop l.f-index l.index.funcs.now))))
+    lower l.fault (lowest (joined
+    (map (λ f. commands_faults l.index.funcs.now f.body) (drop l.f-index l.index.funcs.now))))
     ≡ lowest (joined (map (λ f. commands_faults l.index.funcs.now f.body) l.index.funcs.now))

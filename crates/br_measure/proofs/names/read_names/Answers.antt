@@ -7,4 +7,4 @@ pub returns-clause-fault : goal.returns-clause-fault
 returns-clause-fault c =
     let fs = c.args.funcs.now in
     let parts = lowest_append (duplicates_after [] fs) (joined (map (λ f. commands_faults fs f.body) fs)) in
-    rw (c.lower-fault.ensures, c.bodies.ensures, c.in_ok-index.ensures.functions, c.in_ok-index.ensures.fault, parts) refl
+    rw (c.lower-fault.ensures, c.bodies.ensures, c.duplicates.ensures, c.in_ok-index.ensures, parts) refl

@@ -12,8 +12,10 @@ invariant-loop-g l = record {
   seen_reached : (g : ℕ) → get_or l.seen.items g false ≡ true → Leads l.table l.f g;
   left_reached : (g : ℕ) → has l.left.items g ≡ true → Leads l.table l.f g;
   first : (g : ℕ) → has (row l.table l.f) g ≡ true → (get_or l.seen.items g false || has l.left.items g) ≡ true;
-  closed : (h : ℕ) → get_or l.seen.items h false ≡ true → (g : ℕ) → has (row l.table h) g ≡ true → (get_or l.seen.items g false || has l.left.items g) ≡ true;
+  closed : (h : ℕ) → get_or l.seen.items h false ≡ true → (g : ℕ) → has (row l.table h) g ≡ true
+      → (get_or l.seen.items g false || has l.left.items g) ≡ true;
 }
 
 abbrev pub decreases-loop-g : goal.decreases-loop-g
-decreases-loop-g l = unseen l.seen.items * (largest (map (λ (ns : List ℕ). length ns) l.table) + 1) + length l.left.items
+decreases-loop-g l = unseen l.seen.items * (largest (map (λ (ns : List ℕ). length ns) l.table) + 1) + length
+    l.left.items

@@ -5,7 +5,8 @@ use Rattle.br_measure.specs.Names.{name_faults}
 use Rattle.br_measure.proofs.phases.examine.Goals as goal
 
 pub returns-in-Some : goal.returns-in-Some
-returns-in-Some c = inl (lowest_is (name_faults c.args.funcs.now) c.in-Some.fault (sym c.in_ok-index.ensures.fault ∙ c.in-Some.is))
+returns-in-Some c = inl (lowest_is (name_faults c.args.funcs.now) c.in-Some.fault
+    (sym c.in_ok-index.ensures.fault ∙ c.in-Some.is))
 
 pub returns-then-total-gt-LARGEST_BULK : goal.returns-then-total-gt-LARGEST_BULK
 returns-then-total-gt-LARGEST_BULK c =

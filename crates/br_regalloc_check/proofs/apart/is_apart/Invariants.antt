@@ -6,4 +6,5 @@ use Rattle.br_regalloc_check.proofs.apart.is_apart.Given as goal
 
 abbrev pub invariant-loop-k : goal.invariant-loop-k
 invariant-loop-k l =
-    (z : ℕ) → z < length l.to → z / 32 < l.k → IsTrue (set_of l.live z) → slice_index l.to z ≡ slice_index l.to l.x → z ≡ l.x
+    (z : ℕ) → z < length l.to → z / 32 < l.k → IsTrue (set_of l.live z)
+    → slice_index l.to z ≡ slice_index l.to l.x → z ≡ l.x

@@ -7,7 +7,8 @@ use Rattle.br_regalloc_check.proofs.apart.is_shared.Given as goal
 
 abbrev pub invariant-loop-rest : goal.invariant-loop-rest
 invariant-loop-rest l = record {
-  same : list_any (λ y. y == l.new) (map (slice_index l.to) l.xs) ≡ list_any (λ y. y == l.new) (map (slice_index l.to) l.rest);
+  same : list_any (λ y. y == l.new) (map (slice_index l.to) l.xs)
+      ≡ list_any (λ y. y == l.new) (map (slice_index l.to) l.rest);
   below : IsTrue (are_below (length l.to) l.rest);
 }
 

@@ -6,4 +6,5 @@ use Rattle.br_regalloc_check.proofs.before.is_live_after.Goals as goal
 
 pub returns : goal.returns
 returns c = λ names after h.
-    c.after.ensures ∙ ap (λ (r : Row). r.set c.args.x) (row-here (rows c.args.table.now) c.args.at names c.args.s.now after _ h)
+    c.after.ensures
+    ∙ ap (λ (r : Row). r.set c.args.x) (row-here (rows c.args.table.now) c.args.at names c.args.s.now after _ h)

@@ -7,4 +7,5 @@ use Rattle.br_regalloc_check.proofs.names_for.+names.Given as goal
 
 abbrev pub invariant-count_statements-loop-s : goal.invariant-count_statements-loop-s
 invariant-count_statements-loop-s l =
-    counted l.names (flat_map statement_names (drop l.s-index l.body)) ≡ counted l.initial.names (flat_map statement_names l.body)
+    counted l.names (flat_map statement_names (drop l.s-index l.body))
+    ≡ counted l.initial.names (flat_map statement_names l.body)

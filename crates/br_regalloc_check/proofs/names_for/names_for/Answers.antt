@@ -12,7 +12,8 @@ returns c =
     let ys : List ℕ = c.args.results.now in
     let zs : List ℕ = flat_map statement_names c.args.body.now in
     let whole : counted 0 ((xs ++ ys) ++ zs) ≡ names_for ((xs ++ ys) ++ zs) =
-    counted-is 0 ((xs ++ ys) ++ zs) ∙ (let same : max 0 (names_for ((xs ++ ys) ++ zs)) ≡ names_for ((xs ++ ys) ++ zs) = omega arith in same) in
+    counted-is 0 ((xs ++ ys) ++ zs)
+    ∙ (let same : max 0 (names_for ((xs ++ ys) ++ zs)) ≡ names_for ((xs ++ ys) ++ zs) = omega arith in same) in
     c.count_statements.ensures
     ∙ ap (λ n. counted n zs) (c.count_each-2.ensures ∙ ap (λ n. counted n ys) c.count_each.ensures)
     ∙ ap (λ n. counted n zs) (sym (counted-append 0 xs ys))

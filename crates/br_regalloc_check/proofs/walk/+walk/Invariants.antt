@@ -16,5 +16,6 @@ invariant-may_rename_all-loop-s l = record {
       StandsAt (rows l.table) l.at names (moments (map live (drop l.s-index l.body)) after);
   may : (names : ℕ) (after : Names) → StandsAt (rows l.table) l.initial.at names (moments (map live l.body) after) →
       AllByRecursion (MayRenameBelow (length l.to) (slice_index l.to)) (moments (map live l.body) after)
-      ↔ AllByRecursion (MayRenameBelow (length l.to) (slice_index l.to)) (moments (map live (drop l.s-index l.body)) after);
+      ↔ AllByRecursion (MayRenameBelow (length l.to) (slice_index l.to))
+      (moments (map live (drop l.s-index l.body)) after);
 }

@@ -4,4 +4,5 @@ use Rattle.br_sexpr.proofs.printing.+push_tree.Given as goal
 
 abbrev pub invariant-loop-other : goal.invariant-loop-other
 invariant-loop-other l =
-    l.text.items ++ spaced (map tree_text (drop l.other-index l.others)) ≡ l.initial.text.items ++ spaced (map tree_text l.others)
+    l.text.items ++ spaced (map tree_text (drop l.other-index l.others))
+    ≡ l.initial.text.items ++ spaced (map tree_text l.others)

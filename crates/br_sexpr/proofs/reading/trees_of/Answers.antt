@@ -10,15 +10,19 @@ loop-at-init c = (omega arith, so_far-none _ _ c.new-reader.ensures.no_list c.ne
 pub loop-at-preserved : goal.loop-at-preserved
 loop-at-preserved c =
     let bytes = c.args.bytes.now in
-    let i = c.loop-at.at in
-    (omega (arith), so_far-more bytes _ i _ _ (take_rest bytes i) (c.first_piece-kind.ensures.cut i) _ _ c.in_ok-take.ensures.took c.loop-at.invariant.1)
+    let i = c.loop-at.at in (
+      omega (arith),
+      so_far-more bytes _ i _ _ (take_rest bytes i) (c.first_piece-kind.ensures.cut i) _ _
+          c.in_ok-take.ensures.took c.loop-at.invariant.1,
+    )
 
 pub returns-in_err-take : goal.returns-in_err-take
 returns-in_err-take c =
     let bytes = c.args.bytes.now in
     let i = c.loop-at.at in
     let p = err_from_is_err_and c.from_residual.result c.from_residual.ensures.1 in
-    rw (p.1, p.2) (so_far-refused bytes _ i _ _ (take_rest bytes i) (c.first_piece-kind.ensures.cut i) _ _ c.in_err-take.ensures.refused c.loop-at.invariant.1)
+    rw (p.1, p.2) (so_far-refused bytes _ i _ _ (take_rest bytes i) (c.first_piece-kind.ensures.cut i) _ _
+    c.in_err-take.ensures.refused c.loop-at.invariant.1)
 
 pub returns : goal.returns
 returns c = so_far-all _ _ _ _ c.loop-at-test.false c.loop-at.invariant.1 c.finish.ensures

@@ -1,4 +1,5 @@
-use Rattle.br_source_meaning.proofs.Given.{longer_lists-run, longer_lists-run_all, longer_lists-function_of, longer_lists-call, longer_lists-begins}
+use Rattle.br_source_meaning.proofs.Given.{longer_lists-run, longer_lists-run_all, longer_lists-function_of}
+use Rattle.br_source_meaning.proofs.Given.{longer_lists-call, longer_lists-begins}
 use Rattle.br_source_meaning.proofs.laws.longer_lists_stay.Goals as goal
 
 pub returns : goal.returns

@@ -9,4 +9,5 @@ use Rattle.br_source_meaning.proofs.values.values.Given as goal
 abbrev pub invariant-loop-e : goal.invariant-loop-e
 invariant-loop-e l =
     values (locals_in l.variables) l.memory (named_exprs (names_of l.variables) l.es)
-    ≡ option_map (λ vs. l.words.items ++ vs) (values (locals_in l.variables) l.memory (named_exprs (names_of l.variables) (drop l.e-index l.es)))
+    ≡ option_map (λ vs. l.words.items ++ vs)
+    (values (locals_in l.variables) l.memory (named_exprs (names_of l.variables) (drop l.e-index l.es)))

@@ -7,6 +7,7 @@ use Rattle.br_spill.proofs.bodies.+statement.Given as goal
 
 abbrev pub invariant-statements-loop-s : goal.invariant-statements-loop-s
 invariant-statements-loop-s l = record {
-  code : l.out ++ joined (map (spilled (layout_in l.places)) (drop l.s-index l.body)) ≡ l.initial.out ++ joined (map (spilled (layout_in l.places)) l.body);
+  code : l.out ++ joined (map (spilled (layout_in l.places)) (drop l.s-index l.body))
+      ≡ l.initial.out ++ joined (map (spilled (layout_in l.places)) l.body);
   words : list_all (throughout words_fit) l.body ≡ list_all (throughout words_fit) (drop l.s-index l.body);
 }

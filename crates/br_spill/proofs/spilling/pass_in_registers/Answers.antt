@@ -8,7 +8,8 @@ returns c =
     let qs = c.in_ok-funcs.funcs in
     let same : qs ≡ wide_program ps = c.in_ok-funcs.ensures.program ∙ ap wide_program c.as_slice.ensures in
     let words : HasWords ps = subst HasWords c.as_slice.ensures c.in_ok-funcs.ensures.words in
-    let each : SpilledFunctions qs ps = subst (λ rs. SpilledFunctions rs ps) (sym same) (c.wide_layouts_fit.ensures.program ps c.requires) in
+    let each : SpilledFunctions qs ps =
+    subst (λ rs. SpilledFunctions rs ps) (sym same) (c.wide_layouts_fit.ensures.program ps c.requires) in
     record {
       program = same;
       spilled = each;

@@ -7,4 +7,5 @@ use Rattle.br_stack_need.proofs.names.+names.Given as goal
 
 abbrev pub invariant-mark_statements-loop-s : goal.invariant-mark_statements-loop-s
 invariant-mark_statements-loop-s l =
-    marked l.seen (flat_map statement_names (drop l.s-index l.body)) ≡ marked l.initial.seen (flat_map statement_names l.body)
+    marked l.seen (flat_map statement_names (drop l.s-index l.body))
+    ≡ marked l.initial.seen (flat_map statement_names l.body)

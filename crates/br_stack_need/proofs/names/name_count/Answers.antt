@@ -7,4 +7,12 @@ pub returns-clause-value : goal.returns-clause-value
 returns-clause-value c =
     let f = c.args.f.now in
     let counted = count-function 32 f.args f.results (flat_map statement_names f.body) c.requires in
-    rw (c.marks.ensures.value, c.mark_statements.ensures, c.mark_each-2.ensures, c.mark_each.ensures, c.as_slice.ensures, c.as_slice-2.ensures, c.as_slice-3.ensures) counted
+    rw (
+      c.marks.ensures.value,
+      c.mark_statements.ensures,
+      c.mark_each-2.ensures,
+      c.mark_each.ensures,
+      c.as_slice.ensures,
+      c.as_slice-2.ensures,
+      c.as_slice-3.ensures,
+    ) counted

@@ -5,4 +5,5 @@ use Rattle.br_stack_need.proofs.stack.largest_need.Given as goal
 
 abbrev pub invariant-loop-g : goal.invariant-loop-g
 invariant-loop-g l =
-    max l.most (largest (map (λ g. slice_index l.needs g) (drop l.g-index l.callees))) ≡ largest (map (λ g. slice_index l.needs g) l.callees)
+    max l.most (largest (map (λ g. slice_index l.needs g) (drop l.g-index l.callees)))
+    ≡ largest (map (λ g. slice_index l.needs g) l.callees)

@@ -5,4 +5,5 @@ use Rattle.br_stack_need.proofs.stack.own_needs.Given as goal
 
 abbrev pub invariant-loop-f : goal.invariant-loop-f
 invariant-loop-f l =
-    l.own ++ map (λ f. min 4294967295 (own_need f)) (drop l.f-index l.funcs) ≡ map (λ f. min 4294967295 (own_need f)) l.funcs
+    l.own ++ map (λ f. min 4294967295 (own_need f)) (drop l.f-index l.funcs)
+    ≡ map (λ f. min 4294967295 (own_need f)) l.funcs

@@ -8,7 +8,8 @@ use Rattle.br_syntax.proofs.write_expr.+expr_tree.Goals as goal
 
 pub returns-in-Var-clause-denotes : goal.returns-in-Var-clause-denotes
 returns-in-Var-clause-denotes t c =
-    IfOk-weaker c.name_tree.result _ _ (λ u is. ap expression is ∙ expression-name 0 c.in-Var.name ∙ ap Ok (sym c.in-Var.is)) c.name_tree.ensures
+    IfOk-weaker c.name_tree.result _ _
+    (λ u is. ap expression is ∙ expression-name 0 c.in-Var.name ∙ ap Ok (sym c.in-Var.is)) c.name_tree.ensures
 
 pub returns-in_ok-expr_tree-in-Load-clause-denotes : goal.returns-in_ok-expr_tree-in-Load-clause-denotes
 returns-in_ok-expr_tree-in-Load-clause-denotes t c =

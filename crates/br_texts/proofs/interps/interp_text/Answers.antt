@@ -33,7 +33,8 @@ returns c =
     let choices : interp.choices.now ≡ s.choices = c.in_ok-interp.ensures.choices ∙ c.as_slice-4.ensures in
     let is =
     c.in_ok-finished.ensures
-    ∙ same-call interp.program.now.funcs fs f interp.args.now s.args interp.memory (memory_of s.mem) interp.answers.now s.answers interp.choices.now
+    ∙ same-call interp.program.now.funcs fs f interp.args.now s.args interp.memory (memory_of s.mem) interp.answers.now
+    s.answers interp.choices.now
     s.choices s.limit program args memory answers choices in (
       f,
       c.in_ok-interp.ensures.func,

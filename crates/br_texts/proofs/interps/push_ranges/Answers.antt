@@ -15,7 +15,8 @@ loop-range-preserved c =
     let all = c.args.text.now.items ++ range_lines byte c.args.ranges.now in
     let inside : Inside (range ∷ rest) = subst Inside left c.loop-range.invariant.inside in
     let so_far : c.loop-range.text.items ++ range_lines byte (range ∷ rest) ≡ all =
-    subst (λ (cs : List Choice). c.loop-range.text.items ++ range_lines byte cs ≡ all) left c.loop-range.invariant.so_far in
+    subst (λ (cs : List Choice). c.loop-range.text.items ++ range_lines byte cs ≡ all) left
+    c.loop-range.invariant.so_far in
     let bytes : c.deref.result.now ≡ values byte range.addr (length range.bytes) =
     c.deref.ensures.value ∙ (c.in_ok-bytes.ensures ∙ ap (values byte range.addr) c.len.ensures) in
     record {

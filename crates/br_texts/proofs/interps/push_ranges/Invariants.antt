@@ -8,6 +8,7 @@ use Rattle.br_texts.proofs.interps.push_ranges.Given as goal
 abbrev pub invariant-loop-range : goal.invariant-loop-range
 invariant-loop-range l =
     record {
-      so_far : l.text.items ++ range_lines (byte_in l.memory) (drop l.range-index l.ranges) ≡ l.fn.text.items ++ range_lines (byte_in l.memory) l.ranges;
+      so_far : l.text.items ++ range_lines (byte_in l.memory) (drop l.range-index l.ranges)
+          ≡ l.fn.text.items ++ range_lines (byte_in l.memory) l.ranges;
       inside : Inside (drop l.range-index l.ranges);
     }

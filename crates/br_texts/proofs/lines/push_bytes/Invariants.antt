@@ -1,5 +1,5 @@
 use Rattle.std.proofs.Common.{◌≡◌, ◌++◌, drop}
-use Rattle.br_texts.specs.Lines.{bytes_text}
+use Rattle.br_bytes.specs.Hexadecimal.{bytes_text}
 use Rattle.br_texts.proofs.lines.push_bytes.Given as goal
 
 -- the text so far and what is to come are the text as it was and all that is added

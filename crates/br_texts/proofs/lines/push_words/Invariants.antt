@@ -1,5 +1,5 @@
 use Rattle.std.proofs.Common.{◌≡◌, ◌++◌, drop}
-use Rattle.br_texts.specs.Lines.{word_fields}
+use Rattle.br_image.specs.Fields.{word_fields}
 use Rattle.br_texts.proofs.lines.push_words.Given as goal
 
 -- the text so far and what is to come are the text as it was and all that is added

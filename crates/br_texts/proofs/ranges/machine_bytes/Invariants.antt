@@ -5,4 +5,5 @@ use Rattle.br_texts.proofs.ranges.machine_bytes.Given as goal
 
 -- the bytes so far and those to come are all
 abbrev pub invariant-loop-i : goal.invariant-loop-i
-invariant-loop-i l = l.bytes.items ++ values (byte_of l.machine.state) (l.a + l.i) (l.n - l.i) ≡ values (byte_of l.machine.state) l.a l.n
+invariant-loop-i l =
+    l.bytes.items ++ values (byte_of l.machine.state) (l.a + l.i) (l.n - l.i) ≡ values (byte_of l.machine.state) l.a l.n

@@ -39,7 +39,8 @@ loop-range-preserved c =
     subst (λ (cs : List Choice). with_ranges m cs ≡ memory_of c.args.ranges.now) left c.loop-range.invariant.so_far in
     let are = ahead.ranges in
     let low : data_base ≤ range.addr = (let first = are.0 in let from = ahead.low in omega arith) in
-    let inside = c.memories_of_the_data_region.ensures.more m range.addr range.bytes c.loop-range.invariant.inside are.2 low are.1 in
+    let inside = c.memories_of_the_data_region.ensures.more m range.addr range.bytes c.loop-range.invariant.inside
+    are.2 low are.1 in
     let new = sym c.in_ok-add_range.ensures in
     record {
       so_far = subst (λ (m : Memory). with_ranges m rest ≡ memory_of c.args.ranges.now) new so_far;

@@ -8,6 +8,7 @@ use Rattle.br_texts.proofs.runs.push_ranges.Given as goal
 abbrev pub invariant-loop-range : goal.invariant-loop-range
 invariant-loop-range l =
     record {
-      so_far : l.text.items ++ range_lines (byte_of l.machine.state) (drop l.range-index l.ranges) ≡ l.fn.text.items ++ range_lines (byte_of l.machine.state) l.ranges;
+      so_far : l.text.items ++ range_lines (byte_of l.machine.state) (drop l.range-index l.ranges)
+          ≡ l.fn.text.items ++ range_lines (byte_of l.machine.state) l.ranges;
       inside : Inside (drop l.range-index l.ranges);
     }

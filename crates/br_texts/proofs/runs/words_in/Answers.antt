@@ -11,5 +11,6 @@ loop-i-preserved c =
     let so_far = c.loop-i.words.items in
     let grown : c.push.new.self.items ≡ so_far ++ at (10 + i) ∷ [] =
     c.in_ok-push.ensures.items ∙ ap (λ (w : ℕ). so_far ++ w ∷ []) c.register.ensures in
-    subst (λ (xs : List ℕ). xs ++ values at (10 + (i + 1)) (c.args.count - (i + 1)) ≡ values at 10 c.args.count) (sym grown)
+    subst (λ (xs : List ℕ). xs ++ values at (10 + (i + 1)) (c.args.count - (i + 1)) ≡ values at 10 c.args.count)
+    (sym grown)
     (values-step at 10 i c.args.count so_far _ c.loop-i-test.true c.loop-i.invariant)

@@ -38,5 +38,6 @@ loop-event-preserved c =
     let good = exact.0 yes in (
       omega (arith, count),
       subst (λ (xs : List Event). Stands c.take.new.self xs) (sym (take_more es i _ test)) stands,
-      keeps_more es i c.loop-event.invariant.2 (subst (λ (xs : List Event). BeginsGood xs) (sym (take_more es i _ test)) good),
+      keeps_more es i c.loop-event.invariant.2
+          (subst (λ (xs : List Event). BeginsGood xs) (sym (take_more es i _ test)) good),
     )

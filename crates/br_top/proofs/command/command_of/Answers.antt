@@ -6,5 +6,6 @@ use Rattle.br_top.proofs.command.command_of.Goals as goal
 
 pub returns-in-len1 : goal.returns-in-len1
 returns-in-len1 c =
-    map-one string_bytes c.args.words.now c.word-item.result (codes "compile") (omega arith) (omega arith) c.word-item.is
+    map-one string_bytes c.args.words.now c.word-item.result (codes "compile") (omega arith) (omega arith)
+    c.word-item.is
     (c.is_text.ensures.0 c.if-is_text.true)

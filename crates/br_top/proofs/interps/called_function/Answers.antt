@@ -6,7 +6,8 @@ use Rattle.br_top.proofs.Called.{function_at_number, number_within, no_function}
 use Rattle.br_top.proofs.interps.called_function.Goals as goal
 
 -- the function of a number that a name has
-found : (fs : List Func) (name : List ℕ) (n : ℕ) → number_named fs name ≡ Some n → (f : Func) × (slice_get fs n ≡ Some f) × (function_named fs name ≡ Some f)
+found : (fs : List Func) (name : List ℕ) (n : ℕ) → number_named fs name ≡ Some n
+    → (f : Func) × (slice_get fs n ≡ Some f) × (function_named fs name ≡ Some f)
 found fs name n e =
     let low = number_within fs name n e in
     elim (slice_get_cases fs n).1 [

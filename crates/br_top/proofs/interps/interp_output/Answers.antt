@@ -15,7 +15,8 @@ returns-in_err-checked-clause-refused c =
     let p = err_from_is_err_and c.from_residual-in_err-checked.result c.from_residual-in_err-checked.ensures.1 in
     let P : List ℕ → Type 0 = λ rest. IsRefusedFor (RefusesText rest) c.in_err-checked.field-0.0 in
     let refused = subst P (take_rest c.args.bytes.now c.in_ok-script.at) c.in_err-checked.ensures.refused in
-    rw (p.1, p.2) (text_refused c.args.bytes.now c.in_ok-script.script c.in_ok-script.at c.in_ok-script.ensures.script c.in_err-checked.field-0.0 refused)
+    rw (p.1, p.2) (text_refused c.args.bytes.now c.in_ok-script.script c.in_ok-script.at c.in_ok-script.ensures.script
+    c.in_err-checked.field-0.0 refused)
 
 pub returns-in_err-function-clause-refused : goal.returns-in_err-function-clause-refused
 returns-in_err-function-clause-refused c =
@@ -43,7 +44,8 @@ returns-clause-made c =
     let here = shown.1 in
     let one : shown.0 ≡ f.0 = cc in
     let script = c.in_ok-script.script in
-    let text = shown.2 ∙ ap (λ (fs : List Func). interp_text script fs shown.0) same ∙ ap (λ (g : Func). interp_text script c.in_ok-checked.checked g) one in
+    let text = shown.2 ∙ ap (λ (fs : List Func). interp_text script fs shown.0) same
+    ∙ ap (λ (g : Func). interp_text script c.in_ok-checked.checked g) one in
     record {
       script = script;
       program = c.in_ok-checked.checked;
@@ -57,4 +59,5 @@ returns-clause-made c =
 -- what the run adds a text for is not refused
 pub returns-clause-unrefused : goal.returns-clause-unrefused
 returns-clause-unrefused c =
-    c.interps_are_unrefused.ensures c.args.bytes.now c.in_ok-interp_text.field-0.items c.requires (returns-clause-made c)
+    c.interps_are_unrefused.ensures c.args.bytes.now c.in_ok-interp_text.field-0.items c.requires
+    (returns-clause-made c)

@@ -6,7 +6,8 @@ use Rattle.br_syntax.specs.declared.program.Func.{Func}
 use Rattle.br_syntax.specs.Denotes.{Denotes}
 use Rattle.br_compile.specs.declared.refusal.Refusal.TheVariants.{InputTooLong, Text, Shape, Names}
 use Rattle.br_top.specs.declared.command.Command.TheVariants.{Print}
-use Rattle.br_top.specs.declared.trouble.Reason.TheVariants.{TooLong, Source, Image, Script, TextTooLong, UnknownEntry, WrongCount, Trace}
+use Rattle.br_top.specs.declared.trouble.Reason.TheVariants.{TooLong, Source, Image, Script, TextTooLong}
+use Rattle.br_top.specs.declared.trouble.Reason.TheVariants.{UnknownEntry, WrongCount, Trace}
 use Rattle.br_top.specs.Answers.{IsUnrefused}
 use Rattle.br_top.proofs.making.canonical_text.Goals as goal
 

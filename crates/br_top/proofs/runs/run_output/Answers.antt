@@ -1,16 +1,18 @@
 use Rattle.std.proofs.Common.{ℕ, List, sym, subst, ◌∙◌}
 use Rattle.std.proofs.lemmas.List.{take_rest}
 use Rattle.std.proofs.lemmas.Result.{err_from_is_err_and}
-use Rattle.br_image.specs.Faults.{IsFault, ForFault}
+use Rattle.br_image.specs.Faults.{IsFault}
+use Rattle.br_base.specs.Faults.{IfFault}
 use Rattle.br_top.proofs.OneRun.{image_refused, entry_refused}
 use Rattle.br_top.proofs.runs.run_output.Goals as goal
 
 pub returns-in_err-image-clause-refused : goal.returns-in_err-image-clause-refused
 returns-in_err-image-clause-refused c =
     let p = err_from_is_err_and c.from_residual-in_err-image.result c.from_residual-in_err-image.ensures.1 in
-    let P : List ℕ → Type 0 = λ rest. ForFault c.in_err-image.field-0.0 (IsFault rest) in
+    let P : List ℕ → Type 0 = λ rest. IfFault c.in_err-image.field-0.0 (IsFault rest) in
     let faulty = subst P (take_rest c.args.bytes.now c.in_ok-script.at) c.in_err-image.ensures.refused in
-    rw (p.1, p.2) (image_refused c.args.bytes.now c.in_ok-script.script c.in_ok-script.at c.in_ok-script.ensures.script c.in_err-image.field-0.0 faulty)
+    rw (p.1, p.2) (image_refused c.args.bytes.now c.in_ok-script.script c.in_ok-script.at c.in_ok-script.ensures.script
+    c.in_err-image.field-0.0 faulty)
 
 pub returns-in_err-entry-clause-refused : goal.returns-in_err-entry-clause-refused
 returns-in_err-entry-clause-refused c =

@@ -112,4 +112,5 @@ returns-in-Err-Refused-clause-acceptable g c command bytes words known unrefused
     let refused : c.made_text.result ≡ Err (Refused reason) = cc in
     let same = one_command _ command c.in-Some.command words c.in-Some.ensures in
     let unrefused_here = subst (λ (k : Command). IsUnrefused k bytes) same unrefused in
-    elim (unrefused-reads c.in-Some.command _ _ bytes reason known unrefused_here (c.made_text.ensures.refused reason refused)) [ ]
+    elim (unrefused-reads c.in-Some.command _ _ bytes reason known unrefused_here
+    (c.made_text.ensures.refused reason refused)) [ ]

@@ -4,7 +4,8 @@ use Rattle.std.proofs.lemmas.Grind.{common_steps}
 use Rattle.std.proofs.lemmas.Bool.Decides.{nat_tests}
 use Rattle.std.specs.Int.Bits.{and_lt, or_lt, xor_lt}
 use Rattle.br_words.specs.declared.operation.BinOp.{BinOp}
-use Rattle.br_words.specs.declared.operation.BinOp.TheVariants.{Add, Sub, Mul, Mulhuu, Divu, Remu, And, Or, Xor, Sru, Slu, Srs, Lts, Ltu, Eq}
+use Rattle.br_words.specs.declared.operation.BinOp.TheVariants.{Add, Sub, Mul, Mulhuu, Divu, Remu, And}
+use Rattle.br_words.specs.declared.operation.BinOp.TheVariants.{Or, Xor, Sru, Slu, Srs, Lts, Ltu, Eq}
 use Rattle.br_words.specs.Words.{value_of_op}
 use Rattle.br_words.proofs.laws.operations_answer_words.Goals as goal
 

@@ -17,7 +17,8 @@ replace-requires t c =
     let here : place c.args.a ≡ c.args.a = omega arith in
     rw c.replace_low.ensures
     (contains-with_bytes (low_bytes (c.args.n - 1) (c.args.v / 256)) c.args.self.now (place (c.args.a + 1)) c.args.a
-    (subst (λ q. IsTrue (map.contains_key c.args.self.now q)) here (whole_first c.args.self.now c.args.a c.args.n (c.args.n - 1) (omega arith) c.requires)))
+    (subst (λ q. IsTrue (map.contains_key c.args.self.now q)) here
+    (whole_first c.args.self.now c.args.a c.args.n (c.args.n - 1) (omega arith) c.requires)))
 
 pub returns : goal.returns
 returns t c =

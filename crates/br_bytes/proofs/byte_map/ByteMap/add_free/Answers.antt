@@ -17,10 +17,12 @@ invariant_of-self c =
     let some : 0 < length c.args.bytes.now = grind (arith, nat_tests, is_not) in
     either_kept c.add.result c.add.new.ranges.items (added x rs) rs c.add.ensures.ok c.add.ensures.err
     (added_kept x rs c.self.invariant some c.requires.within (λ i. (c.type_inv.bytes i).fits)
-    (λ q l h. ap (λ m. map.get m q) c.self.view_is ∙ free_is_none c.args.bytes.now c.args.self.now c.args.a q c.requires.free l h)) c.self.invariant
+    (λ q l h. ap (λ m. map.get m q) c.self.view_is
+    ∙ free_is_none c.args.bytes.now c.args.self.now c.args.a q c.requires.free l h)) c.self.invariant
 
 pub returns-clause-ok : goal.returns-clause-ok
 returns-clause-ok c =
     let rs = c.self.inside.ranges.items in
     let x : Range = record { start = c.args.a; bytes = c.args.bytes.now } in
-    on_ok c.add.result c.add.ensures.ok (λ is. ap memory_of is ∙ added_memory x rs c.requires.within ∙ ap (λ m. with_bytes m c.args.a c.args.bytes.now) c.self.view_is)
+    on_ok c.add.result c.add.ensures.ok (λ is. ap memory_of is ∙ added_memory x rs c.requires.within
+    ∙ ap (λ m. with_bytes m c.args.a c.args.bytes.now) c.self.view_is)

@@ -14,12 +14,15 @@ pub invariant_of-self : goal.invariant_of-self
 invariant_of-self c =
     let rs = c.self.inside.ranges.items in
     let e = c.from.result + c.from-2.result in
-    either_kept c.clear.result c.clear.new.ranges.items (ranges_to c.args.a rs ++ ranges_from e rs) rs c.clear.ensures.ok c.clear.ensures.err
-    (cleared_kept rs c.args.a c.args.n e c.self.invariant (omega (arith, c.from.ensures, c.from-2.ensures)) (omega (arith, c.from.ensures, c.from-2.ensures))) c.self.invariant
+    either_kept c.clear.result c.clear.new.ranges.items (ranges_to c.args.a rs ++ ranges_from e rs) rs
+    c.clear.ensures.ok c.clear.ensures.err
+    (cleared_kept rs c.args.a c.args.n e c.self.invariant (omega (arith, c.from.ensures, c.from-2.ensures))
+    (omega (arith, c.from.ensures, c.from-2.ensures))) c.self.invariant
 
 pub returns-clause-ok : goal.returns-clause-ok
 returns-clause-ok c =
     let rs = c.self.inside.ranges.items in
     on_ok c.clear.result c.clear.ensures.ok (λ is.
-    ap memory_of is ∙ cleared_memory rs c.args.a c.args.n (c.from.result + c.from-2.result) c.self.invariant.apart (omega (arith, c.from.ensures, c.from-2.ensures))
+    ap memory_of is ∙ cleared_memory rs c.args.a c.args.n (c.from.result
+    + c.from-2.result) c.self.invariant.apart (omega (arith, c.from.ensures, c.from-2.ensures))
     ∙ ap (λ m. without_range m c.args.a c.args.n) c.self.view_is)

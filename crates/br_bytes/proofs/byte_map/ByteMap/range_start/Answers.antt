@@ -6,7 +6,8 @@ use Rattle.br_bytes.proofs.byte_map.ByteMap.range_start.Goals as goal
 
 pub index-requires : goal.index-requires
 index-requires c =
-    let runs : ranges c.args.self.now ≡ c.self.inside.ranges.items = ap ranges (sym c.self.view_is) ∙ ranges_of c.self.inside.ranges.items 0 c.self.invariant.apart in
+    let runs : ranges c.args.self.now ≡ c.self.inside.ranges.items = ap ranges (sym c.self.view_is)
+    ∙ ranges_of c.self.inside.ranges.items 0 c.self.invariant.apart in
     omega (arith, ap length runs)
 
 pub returns : goal.returns
@@ -15,4 +16,5 @@ returns c =
     let none : Range = record { start = 0; bytes = [] } in
     let runs : ranges c.args.self.now ≡ rs = ap ranges (sym c.self.view_is) ∙ ranges_of rs 0 c.self.invariant.apart in
     let h : c.args.i < length rs = omega (arith, ap length runs) in
-    c.start.ensures ∙ ap (λ (z : Range). z.start) (get_or_read rs c.args.i c.index.result.now h c.index.ensures none ∙ ap (λ zs. get_or zs c.args.i none) (sym runs))
+    c.start.ensures ∙ ap (λ (z : Range). z.start) (get_or_read rs c.args.i c.index.result.now h c.index.ensures none
+    ∙ ap (λ zs. get_or zs c.args.i none) (sym runs))

@@ -10,4 +10,5 @@ overflow_cast-result c =
     omega (arith, few, ap length c.as_slice.ensures.value)
 
 pub returns : goal.returns
-returns c = ap length (c.as_slice.ensures.value ∙ sym (ranges_of c.self.inside.ranges.items 0 c.self.invariant.apart) ∙ ap ranges c.self.view_is)
+returns c = ap length (c.as_slice.ensures.value ∙ sym (ranges_of c.self.inside.ranges.items 0 c.self.invariant.apart)
+    ∙ ap ranges c.self.view_is)

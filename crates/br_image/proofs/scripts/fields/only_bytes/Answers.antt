@@ -1,7 +1,8 @@
 use Rattle.std.proofs.Common.{◌≡◌, ◌≢◌, ◌∙◌, ◌<◌, ℕ, List, ◌∷◌, sym, Option, Some, None}
 use Rattle.std.specs.Prelude.{All, Result, Ok, Err, IfOk, IfNone}
 use Rattle.br_base.specs.declared.failure.NoMemory.{NoMemory}
-use Rattle.br_image.specs.Fields.{bytes_text, bytes_field}
+use Rattle.br_image.specs.Fields.{bytes_field}
+use Rattle.br_bytes.specs.Hexadecimal.{bytes_text}
 use Rattle.br_image.proofs.ScriptForms.{field_tail}
 use Rattle.br_image.proofs.scripts.fields.only_bytes.Goals as goal
 
@@ -13,4 +14,5 @@ no_field (Ok (Some x)) tail digits e h = tt
 no_field (Err m) tail digits e h = tt
 
 pub returns-in-Some-clause-none : goal.returns-in-Some-clause-none
-returns-in-Some-clause-none c = no_field c.parse_bytes.result c.args.tail.now c.in-Some.digits.now c.in-Some.ensures.some c.parse_bytes.ensures.none
+returns-in-Some-clause-none c =
+    no_field c.parse_bytes.result c.args.tail.now c.in-Some.digits.now c.in-Some.ensures.some c.parse_bytes.ensures.none

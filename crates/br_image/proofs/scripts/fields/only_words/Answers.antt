@@ -8,9 +8,11 @@ returns-then-len-most-clause-none c ws few h e =
     let some : 0 < length c.loop-left.left.now = grind (arith, nat_tests, c.is_empty.ensures, c.loop-left-test.true) in
     let full = c.if-len-most.true in
     let count = c.len.ensures in
-    full_words c.args.tail.now c.loop-left.left.now c.loop-left.words ws c.args.most c.loop-left.invariant.1 c.loop-left.invariant.2 (omega arith) some few h e
+    full_words c.args.tail.now c.loop-left.left.now c.loop-left.words ws c.args.most c.loop-left.invariant.1
+    c.loop-left.invariant.2 (omega arith) some few h e
 
 pub returns-in_default-clause-none : goal.returns-in_default-clause-none
 returns-in_default-clause-none c ws few h e =
     let some : 0 < length c.loop-left.left.now = grind (arith, nat_tests, c.is_empty.ensures, c.loop-left-test.true) in
-    no_word c.args.tail.now c.loop-left.left.now c.loop-left.words ws c.loop-left.invariant.1 c.loop-left.invariant.2 some c.in_default.ensures.none h e
+    no_word c.args.tail.now c.loop-left.left.now c.loop-left.words ws c.loop-left.invariant.1 c.loop-left.invariant.2
+    some c.in_default.ensures.none h e

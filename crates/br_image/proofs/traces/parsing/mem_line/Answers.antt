@@ -7,4 +7,5 @@ returns-in_default c = no_trace_buffer c.args.tail.now (rw c.in_default.is at c.
 pub returns : goal.returns
 returns c =
     let found = rw c.in-Some.is at c.in_ok-range.ensures.some in
-    no_trace_range c.args.tail.now c.in-Some.range found.0 found.1 (λ r. let yes = c.is_range.ensures.1 r in let no = c.if-is_range.false in absurd cc)
+    no_trace_range c.args.tail.now c.in-Some.range found.0 found.1
+    (λ r. let yes = c.is_range.ensures.1 r in let no = c.if-is_range.false in absurd cc)

@@ -20,4 +20,5 @@ loop-x-preserved c =
 pub returns-clause-set : goal.returns-clause-set
 returns-clause-set c =
     let none : drop c.loop-x.x-index c.args.xs.now ≡ [] = grind (arith, common_steps) in
-    sym (union-none (set_of c.loop-x.self)) ∙ ap (λ (ys : List ℕ). union (set_of c.loop-x.self) (is_in ys)) (sym none) ∙ c.loop-x.invariant.set
+    sym (union-none (set_of c.loop-x.self)) ∙ ap (λ (ys : List ℕ). union (set_of c.loop-x.self) (is_in ys)) (sym none)
+    ∙ c.loop-x.invariant.set

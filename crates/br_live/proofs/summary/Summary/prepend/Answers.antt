@@ -13,5 +13,6 @@ returns-clause-hands c = λ after.
     let v : Names = set_of c.args.earlier.now.writes in
     let q : Names = set_of c.args.earlier.now.reads in
     ap (λ (s : Names). union (difference after s) (set_of c.union_with.new.self)) c.union_with-2.ensures.set
-    ∙ ap (λ (s : Names). union (difference after (union w v)) s) (c.union_with.ensures.set ∙ ap (λ (s : Names). union s q) c.subtract.ensures.set)
+    ∙ ap (λ (s : Names). union (difference after (union w v)) s)
+    (c.union_with.ensures.set ∙ ap (λ (s : Names). union s q) c.subtract.ensures.set)
     ∙ hands-later after w v r q

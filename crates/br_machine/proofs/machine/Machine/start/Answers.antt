@@ -19,19 +19,24 @@ of k registers pc = record {
   made = k.made;
 }
 
-same : (k : Kept) (registers args : List ℕ) (l : Layout) (base entry word : ℕ) → registers ≡ start_registers word args → base ≡ code_base l → k.layout ≡ l
+same : (k : Kept) (registers args : List ℕ) (l : Layout) (base entry word : ℕ) → registers ≡ start_registers word args
+    → base ≡ code_base l → k.layout ≡ l
     → of k registers (base + entry) ≡ of k (start_registers word args) (code_base k.layout + entry)
 same k registers args l base entry word r b e =
-    ap (λ x. of k x (base + entry)) r ∙ ap (λ x. of k (start_registers word args) (x + entry)) (b ∙ ap code_base (sym e))
+    ap (λ x. of k x (base + entry)) r
+    ∙ ap (λ x. of k (start_registers word args) (x + entry)) (b ∙ ap code_base (sym e))
 
 pub of-requires : goal.of-requires
 of-requires c =
     let k = c.in_ok-ram.ram in
     let l = c.args.layout in
     subst IsPaged
-    (sym (same k c.set_arguments.new.registers c.args.args.now l c.code_base.result c.args.entry c.args.junk c.set_arguments.ensures c.code_base.ensures c.in_ok-ram.ensures.layout))
-    (IsPaged-start k c.args.args.now c.args.junk c.args.entry c.well_formed-2.ensures (all_below-at _ c.args.args.now (λ i. (c.type_inv.args i).fits)) c.ranges.junk.fits
-    (subst (λ (x : Layout). c.args.entry < code_end x - code_base x) (sym c.in_ok-ram.ensures.layout) c.requires.entry) c.requires.aligned)
+    (sym (same k c.set_arguments.new.registers c.args.args.now l c.code_base.result c.args.entry c.args.junk
+    c.set_arguments.ensures c.code_base.ensures c.in_ok-ram.ensures.layout))
+    (IsPaged-start k c.args.args.now c.args.junk c.args.entry c.well_formed-2.ensures
+    (all_below-at _ c.args.args.now (λ i. (c.type_inv.args i).fits)) c.ranges.junk.fits
+    (subst (λ (x : Layout). c.args.entry < code_end x - code_base x) (sym c.in_ok-ram.ensures.layout) c.requires.entry)
+    c.requires.aligned)
 
 pub returns-clause-state : goal.returns-clause-state
 returns-clause-state c =
@@ -47,11 +52,14 @@ returns-clause-state c =
       code_words = length code;
     } in
     ap (λ (m : Paged). m.state)
-    (c.of.ensures ∙ same k c.set_arguments.new.registers c.args.args.now l c.code_base.result c.args.entry c.args.junk c.set_arguments.ensures c.code_base.ensures c.in_ok-ram.ensures.layout)
+    (c.of.ensures ∙ same k c.set_arguments.new.registers c.args.args.now l c.code_base.result c.args.entry c.args.junk
+    c.set_arguments.ensures c.code_base.ensures c.in_ok-ram.ensures.layout)
     ∙ ap (λ x. state x r k.bytes k.code) c.in_ok-ram.ensures.layout
-    ∙ ap (λ x. state l (with_words 10 c.args.args.now (slice_set x 0 0)) k.bytes k.code) (sym (registers-junk_of c.args.junk))
+    ∙ ap (λ x. state l (with_words 10 c.args.args.now (slice_set x 0 0)) k.bytes k.code)
+    (sym (registers-junk_of c.args.junk))
     ∙ ap (λ x. state l registers x k.code) c.in_ok-ram.ensures.bytes
-    ∙ ap (λ x. state l registers (start_ram l c.args.code.now c.args.memory.now (junk_of c.args.junk)) x) c.in_ok-ram.ensures.code
+    ∙ ap (λ x. state l registers (start_ram l c.args.code.now c.args.memory.now (junk_of c.args.junk)) x)
+    c.in_ok-ram.ensures.code
 
 pub returns-clause-made : goal.returns-clause-made
 returns-clause-made c = λ page h.

@@ -9,4 +9,5 @@ use Rattle.br_source_meaning.proofs.running.Running.results.Given as goal
 abbrev pub invariant-loop-k : goal.invariant-loop-k
 invariant-loop-k l =
     words_of (names_at (own_of l.self) l.ks) (state_of l.self).locals
-    ≡ option_map (λ vs. l.words ++ vs) (words_of (names_at (own_of l.self) (drop l.k-index l.ks)) (state_of l.self).locals)
+    ≡ option_map (λ vs. l.words ++ vs)
+    (words_of (names_at (own_of l.self) (drop l.k-index l.ks)) (state_of l.self).locals)

@@ -9,7 +9,9 @@ use Rattle.br_source_meaning.proofs.running.Running.until_turn.Given as goal
 
 abbrev pub invariant-loop-frame : goal.invariant-loop-frame
 invariant-loop-frame l = record {
-  same : (names : List Name) (call : Callee) → OnlyTakes call → finish names (own_of l.fn.self) call l.fn.pending (Goes (state_of l.fn.self)) ≡ finish names (own_of l.self) call l.pending (Goes (state_of l.self));
+  same : (names : List Name) (call : Callee) → OnlyTakes call
+      → finish names (own_of l.fn.self) call l.fn.pending (Goes (state_of l.fn.self))
+      ≡ finish names (own_of l.self) call l.pending (Goes (state_of l.self));
   fuel : l.self.fuel ≡ l.fn.self.fuel;
 }
 

@@ -1,8 +1,9 @@
-use Rattle.br_source_meaning.proofs.Numbers.{numbers-one, first-stays}
+use Rattle.std.proofs.Common.{ap, ◌∙◌}
+use Rattle.br_numbering.specs.Names.{with_name}
+use Rattle.br_source_meaning.proofs.Numbers.{numbers-one}
 use Rattle.br_source_meaning.proofs.variable_names.VariableNames.number.Goals as goal
 
 pub returns : goal.returns
-returns c = numbers-one c.args.self.now.set.keys c.insert_full.new.self.keys c.bytes.result c.args.x.now c.in_ok-k.k c.bytes.ensures.value c.in_ok-k.ensures.keys c.in_ok-k.ensures.stored
-
-pub invariant_of-self : goal.invariant_of-self
-invariant_of-self c = record { first = first-stays c.insert_full.result c.args.self.now.set.keys c.insert_full.new.self.keys c.bytes.result c.insert_full.ensures.keys c.insert_full.ensures.err c.args.self.now.first }
+returns c =
+    numbers-one c.args.self.now c.add.new.self c.bytes.result.now c.args.x.now c.in_ok-k.k c.bytes.ensures.value
+    (c.in_ok-k.ensures.names ∙ ap (λ names. with_name names c.bytes.result.now) c.self.view_is) c.in_ok-k.ensures.number

@@ -1,0 +1,4 @@
+pub mod Listed
+pub mod NumberedFunctions
+pub mod NumberedNames
+pub mod Positions
